@@ -1,0 +1,12 @@
+pub mod Integers
+pub mod Signs
+pub mod Down
+pub mod Reads
+pub mod Floats
+pub mod Quotient
+pub mod Value
+pub mod ToReal
+pub mod Whole
+pub mod FromReal
+pub mod Count
+pub mod Range

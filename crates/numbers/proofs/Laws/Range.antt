@@ -1,0 +1,143 @@
+-- What the range tests tell of a Real: how large it is in units of 1 / per, and so that its count fits. Assumes nothing.
+use mathlib.Core.Path.{_≡_, refl, sym, ap, _∙_, subst}
+use mathlib.Core.Bool.{Bool, true, false, _&&_, _||_}
+use Prim.Native.Nat.{ℕ, zero, suc, _*_, _^_, _≤_, _<_}
+use native.Mathlib.Nat.{le-trans, le-of-eq, lt-of-lt-of-le, lt-of-le-of-lt, one-mul, mul-one, zero-mul, mul-right-comm, mul-le-mul-right, mul-lt-mul-of-pos-right, mul-pos}
+use native.Mathlib.Omega.{arith}
+use lib.Dec.{T, ltb, eqb, ltb→lt, lt→ltb, eqb→eq, lit<, lit≤}
+use lib.IntN.{ℤ, pos, negℤ}
+use lib.Pow.{pow-pos}
+use lib.Signed.{mag}
+use lib.Ieee.{Float, nan, inf, fin, binary32, up, down, le, lt, fits, ofInt}
+use lib.Ieee.Fits.{down-pos}
+use mir.Syntax.{w32}
+use mir.Val.{SFits}
+use Rattle.numbers.specs.Reals.{whole, unitsOf, countOf, under}
+use Rattle.numbers.specs.Written.{from, below, timerAllowed, presetAllowed, operatingAllowed}
+use Rattle.numbers.proofs.Laws.Whole.{whole-small, whole-up-to}
+use Rattle.numbers.proofs.Laws.FromReal.{units-31, units-32}
+
+-- ---- what a test says of a finite Real
+both : (a b : Bool) → T (a && b) → T a × T b
+both true b t = (tt, t)
+both false b t = absurd t
+
+le-test : (a b : ℕ) (c : Bool) → T (ltb b a || (eqb a b && c)) → b ≤ a
+le-test a b c t = go (ltb b a) (eqb a b) (ltb→lt b a) (eqb→eq a b) t
+  where
+    weak : b < a → b ≤ a
+    weak h = omega arith
+
+    go : (p q : Bool) → (T p → b < a) → (T q → a ≡ b) → T (p || (q && c)) → b ≤ a
+    go true q f g t = weak (f tt)
+    go false true f g t = le-of-eq (sym (g tt))
+    go false false f g t = absurd t
+
+module _ (k m : ℕ) (e : ℤ) where
+  -- m * 2 ^ e < 2 ^ k
+  upper : T (lt (fin false m e) (fin false 1 (pos k))) → m * up e < 2 ^ k * down e
+  unfolding lt
+  upper t = simp (mul-one, one-mul) at (ltb→lt (m * up e * 1) (1 * 2 ^ k * down e) t)
+
+  -- −2 ^ k ≤ −m * 2 ^ e
+  lower : T (le (fin true 1 (pos k)) (fin true m e)) → m * up e ≤ 2 ^ k * down e
+  unfolding le
+  lower t = simp (mul-one, one-mul) at (le-test (1 * 2 ^ k * down e) (m * up e * 1) true t)
+
+-- 0 ≤ −m * 2 ^ e: only −0 passes
+none : (m : ℕ) (e : ℤ) → T (le (fin false 0 (pos 0)) (fin true m e)) → m * up e ≡ 0
+unfolding le
+none m e t = sym (simp (mul-one, zero-mul) at (eqb→eq (0 * down e) (m * up e * 1) (both (eqb (0 * down e) (m * up e * 1)) _ t .0)))
+
+-- a finite Real of a size below h, or up to h, in units of 1 / per
+module _ (per h m : ℕ) (e : ℤ) where
+  scaled-below : m * up e < h * down e → 0 < per → m * up e * per < h * per * down e
+  scaled-below l P = lt-of-lt-of-le (mul-lt-mul-of-pos-right l P) (le-of-eq (mul-right-comm h (down e) per))
+
+  scaled-up-to : m * up e ≤ h * down e → m * up e * per ≤ h * per * down e
+  scaled-up-to l = le-trans (mul-le-mul-right per l) (le-of-eq (mul-right-comm h (down e) per))
+
+-- ---- 0 ≤ x < 2 ^ k, over the unit
+module _ (per k : ℕ) (P : 0 < per) where
+  natural-under : (x : Float) → T (le (fin false 0 (pos 0)) x) → T (lt x (fin false 1 (pos k))) → T (under per (2 ^ k * per) x)
+  unfolding under le lt
+  natural-under nan l h = l
+  natural-under (inf true) l h = l
+  natural-under (inf false) l h = h
+  natural-under (fin false m e) l h = lt→ltb (m * up e * per) (2 ^ k * per * down e) (scaled-below per (2 ^ k) m e (upper k m e h) P)
+  natural-under (fin true m e) l h =
+      lt→ltb (m * up e * per) (2 ^ k * per * down e)
+      (lt-of-le-of-lt (le-of-eq (ap (λ (y : ℕ). y * per) (none m e l) ∙ zero-mul per)) (mul-pos (mul-pos (pow-pos k) P) (down-pos e)))
+
+natural-count : (per : ℕ) (x : Float) → T (le (fin false 0 (pos 0)) x) → pos (unitsOf per x) ≡ countOf per x
+unfolding countOf unitsOf
+natural-count per nan l = refl
+natural-count per (inf s) l = refl
+natural-count per (fin false m e) l = refl
+natural-count per (fin true m e) l =
+    let z : whole (m * up e * per) (down e) ≡ 0 = ap (λ (y : ℕ). whole (y * per) (down e)) (none m e l) ∙ ap (λ (y : ℕ). whole y (down e)) (zero-mul per) ∙ whole-small 0 (down e) (down-pos e) in
+    ap pos z ∙ sym (ap (λ (y : ℕ). negℤ (pos y)) z)
+
+under-more : (per a b : ℕ) (x : Float) → a ≤ b → T (under per a x) → T (under per b x)
+unfolding under
+under-more per a b nan l t = t
+under-more per a b (inf s) l t = t
+under-more per a b (fin s m e) l t = lt→ltb (m * up e * per) (b * down e) (lt-of-lt-of-le (ltb→lt (m * up e * per) (a * down e) t) (mul-le-mul-right (down e) l))
+
+-- ---- OutTimer and FBTimer: −8388608 ≤ x < 8388608
+wider : (a d : ℕ) → 0 < d → a ≤ 2147483648 * d → a < 4294967296 * d
+wider a d D l = omega arith
+
+weaken : (a b : ℕ) → a < b → a ≤ b
+weaken a b h = omega arith
+
+mag-minus : (n : ℕ) → n ≤ 2147483648 → mag (negℤ (pos n)) < 2147483648
+mag-minus zero h = lit< tt
+mag-minus (suc n) h = h
+
+pub timer-under : (x : Float) → T (timerAllowed x) → T (under 256 4294967296 x)
+unfolding under from below ofInt le lt
+timer-under nan t = t
+timer-under (inf true) t = t
+timer-under (inf false) t = both (from (negℤ (pos 8388608)) (inf false)) (below (pos 8388608) (inf false)) t .1
+timer-under (fin false m e) t =
+    lt→ltb (m * up e * 256) (4294967296 * down e)
+    (wider (m * up e * 256) (down e) (down-pos e) (weaken (m * up e * 256) (2147483648 * down e) (scaled-below 256 8388608 m e (upper 23 m e (both (from (negℤ (pos 8388608)) (fin false m e)) (below (pos 8388608) (fin false m e)) t .1)) (lit< tt))))
+timer-under (fin true m e) t =
+    lt→ltb (m * up e * 256) (4294967296 * down e)
+    (wider (m * up e * 256) (down e) (down-pos e) (scaled-up-to 256 8388608 m e (lower 23 m e (both (from (negℤ (pos 8388608)) (fin true m e)) (below (pos 8388608) (fin true m e)) t .0))))
+
+pub timer-fits : (x : Float) → T (fits binary32 x) → T (timerAllowed x) → SFits w32 (countOf 256 x)
+unfolding countOf unitsOf from below ofInt le lt under
+timer-fits nan F t = absurd t
+timer-fits (inf true) F t = absurd t
+timer-fits (inf false) F t = absurd (both (from (negℤ (pos 8388608)) (inf false)) (below (pos 8388608) (inf false)) t .1)
+timer-fits (fin false m e) F t =
+    record { sfits = units-31 (fin false m e) 8 F (lit≤ tt) (lt→ltb (m * up e * 256) (2147483648 * down e) (scaled-below 256 8388608 m e (upper 23 m e (both (from (negℤ (pos 8388608)) (fin false m e)) (below (pos 8388608) (fin false m e)) t .1)) (lit< tt))) (timer-under (fin false m e) t) }
+timer-fits (fin true m e) F t = record { sfits = mag-minus (whole (m * up e * 256) (down e)) (whole-up-to (m * up e * 256) (down e) 2147483648 (down-pos e) (scaled-up-to 256 8388608 m e (lower 23 m e (both (from (negℤ (pos 8388608)) (fin true m e)) (below (pos 8388608) (fin true m e)) t .0)))) }
+
+-- ---- WDTimer and the presets: 0 ≤ x < 8388608
+module _ (x : Float) (t : T (presetAllowed x)) where
+  preset-half : T (under 256 2147483648 x)
+  unfolding from below ofInt
+  preset-half = natural-under 256 23 (lit< tt) x (both (from (pos 0) x) (below (pos 8388608) x) t .0) (both (from (pos 0) x) (below (pos 8388608) x) t .1)
+
+  pub preset-under : T (under 256 4294967296 x)
+  preset-under = under-more 256 2147483648 4294967296 x (lit≤ tt) preset-half
+
+  pub preset-fits : T (fits binary32 x) → SFits w32 (countOf 256 x)
+  unfolding from ofInt
+  preset-fits F = subst (SFits w32) (natural-count 256 x (both (from (pos 0) x) (below (pos 8388608) x) t .0)) (record { sfits = units-31 x 8 F (lit≤ tt) preset-half preset-under })
+
+-- ---- OperatingTime: 0 ≤ x < 536870912
+module _ (x : Float) (t : T (operatingAllowed x)) where
+  pub operating-under : T (under 8 4294967296 x)
+  unfolding from below ofInt
+  operating-under = natural-under 8 29 (lit< tt) x (both (from (pos 0) x) (below (pos 536870912) x) t .0) (both (from (pos 0) x) (below (pos 536870912) x) t .1)
+
+  pub operating-count : countOf 8 x ≡ pos (unitsOf 8 x)
+  unfolding from ofInt
+  operating-count = sym (natural-count 8 x (both (from (pos 0) x) (below (pos 536870912) x) t .0))
+
+  pub operating-fits : T (fits binary32 x) → unitsOf 8 x < 4294967296
+  operating-fits F = units-32 x 3 F (lit≤ tt) operating-under

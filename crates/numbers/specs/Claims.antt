@@ -1,0 +1,2 @@
+-- Claims
+use mathlib.Core.Path.{_≡_, refl}

@@ -1,0 +1,40 @@
+-- Document 01, "Time and amperes": Reals of 32 bits and counts, once over the unit. A unit is 1 / per of a second.
+-- A Real is the library's `Float`: `fin s m e` is m * 2 ^ e, negative where s is true, and 2 ^ e is the fraction up e / down e. Definitions only.
+use mathlib.Core.Bool.{Bool, true, false}
+use Prim.Native.Nat.{ℕ, suc, _*_, _/_}
+use lib.Dec.{ltb}
+use lib.IntN.{ℤ, pos, negsuc, negℤ}
+use lib.Ieee.{Float, nan, inf, fin, binary32, up, down, round}
+
+-- "A Real time written becomes a count, the rest dropped toward zero": the whole number that a / b units become. The one rounding rule for written times.
+unfoldable pub whole : ℕ → ℕ → ℕ
+whole a b = a / b
+
+-- a finite Real's magnitude as a whole number of units
+unfoldable pub unitsOf : ℕ → Float → ℕ
+unitsOf per nan = 0
+unitsOf per (inf s) = 0
+unitsOf per (fin s m e) = whole (m * up e * per) (down e)
+
+-- ±n
+abbrev pub signed : Bool → ℕ → ℤ
+signed false n = pos n
+signed true n = negℤ (pos n)
+
+-- the count that a Real time becomes. What is not finite is no time, and stands as 0
+unfoldable pub countOf : ℕ → Float → ℤ
+unfolding unitsOf
+countOf per nan = pos 0
+countOf per (inf s) = pos 0
+countOf per (fin s m e) = signed s (unitsOf per (fin s m e))
+
+-- "A count read becomes the nearest 32-bit Real, ties to the even last bit": count / per, rounded
+unfoldable pub realOf : ℕ → ℤ → Float
+realOf per (pos n) = round binary32 false n per
+realOf per (negsuc n) = round binary32 true (suc n) per
+
+-- a finite Real's magnitude is below high units, before anything is dropped
+unfoldable pub under : ℕ → ℕ → Float → Bool
+under per high nan = false
+under per high (inf s) = false
+under per high (fin s m e) = ltb (m * up e * per) (high * down e)

@@ -1,0 +1,32 @@
+// Reals of 32 bits and their bit patterns. There is one NaN.
+ghost use mathlib.Core.Path.{_≡_};
+ghost use lib.Ieee.{binary32, toBits, ofBits};
+ghost use lib.Ieee.Scale.{finite};
+
+// Every NaN pattern is the one NaN.
+pub fn of_bits(bits: u32) -> f32
+    ensures { λ r. ⌜ r ≡ ofBits binary32 bits ⌝ }
+{
+    if bits % 2147483648 > 2139095040 {
+        return 0.0 / 0.0;
+    }
+    f32::from_bits(bits)
+}
+
+// A NaN gives 0x7FC0_0000.
+pub fn bits_of(x: f32) -> u32
+    ensures { λ r. ⌜ r ≡ toBits binary32 x ⌝ }
+{
+    if x != x {
+        return 0x7FC0_0000;
+    }
+    f32::to_bits(x)
+}
+
+// Neither a NaN nor an infinity.
+pub fn is_finite(x: f32) -> bool
+    ensures { λ r. ⌜ r ≡ finite x ⌝ }
+{
+    let inf: f32 = 1.0 / 0.0;
+    if x < inf { -inf < x } else { false }
+}
