@@ -1,7 +1,5 @@
-pub mod Integers
-pub mod Signs
-pub mod Down
 pub mod Reads
+pub mod Down
 pub mod Floats
 pub mod Quotient
 pub mod Value

@@ -6,7 +6,7 @@ use lib.IntN.{ℤ, pos, negℤ, _+ℤ_, _-ℤ_}
 use lib.Signed.{ltZ}
 use Rattle.numbers.specs.declared.counts.TimerCount.{TimerCount}
 use Rattle.numbers.specs.declared.counts.OperatingCount.{OperatingCount}
-use Rattle.numbers.specs.Integers.{wrapped, larger}
+use Rattle.integers.specs.Integers.{wrapped, larger}
 
 -- how many of a count's units make a second
 abbrev pub timerUnits : ℕ

@@ -1,8 +1,6 @@
--- What the numbers of the channel box mean. Each file is a section of document 01, or what several sections lean on.
-pub mod Integers
+-- What the box's counts and Reals mean: document 01, "Time and amperes", and the counts' part of "A tick".
 pub mod Counts
 pub mod Reals
 pub mod Written
-pub mod Bytes
 pub mod Table
 pub mod Claims

@@ -1,10 +1,19 @@
 -- Document 01, "Time and amperes": Reals of 32 bits and counts, once over the unit. A unit is 1 / per of a second.
 -- A Real is the library's `Float`: `fin s m e` is m * 2 ^ e, negative where s is true, and 2 ^ e is the fraction up e / down e. Definitions only.
 use mathlib.Core.Bool.{Bool, true, false}
+use mathlib.Core.List.{List}
 use Prim.Native.Nat.{ℕ, suc, _*_, _/_}
 use lib.Dec.{ltb}
 use lib.IntN.{ℤ, pos, negsuc, negℤ}
-use lib.Ieee.{Float, nan, inf, fin, binary32, up, down, round}
+use lib.Ieee.{Float, nan, inf, fin, binary32, up, down, round, ofBits, toBits}
+use Rattle.integers.specs.Bytes.{number, bytesOf}
+
+-- a Real on the wire: its bits in four bytes. Every NaN pattern is the one NaN, which gives $7FC00000
+unfoldable pub realFrom : List ℕ → Float
+realFrom bs = ofBits binary32 (number bs)
+
+unfoldable pub realBytes : Float → List ℕ
+realBytes x = bytesOf 4 (toBits binary32 x)
 
 -- "A Real time written becomes a count, the rest dropped toward zero": the whole number that a / b units become. The one rounding rule for written times.
 unfoldable pub whole : ℕ → ℕ → ℕ

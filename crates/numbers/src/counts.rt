@@ -2,9 +2,9 @@
 // neither is taken for the other.
 ghost use mathlib.Core.Path.{_≡_};
 ghost use lib.IntN.{pos, _-ℤ_};
-ghost use Rattle.numbers.specs.Integers.{larger};
+ghost use Rattle.integers.specs.Integers.{larger};
 ghost use Rattle.numbers.specs.Counts.{freeRunTick, watchdogTick, outTimerTick, feedbackTick, operatingStep, counterStep, isNegative, isPositive};
-use crate::integers;
+use integers::signed;
 
 pub struct TimerCount(pub i32);
 
@@ -28,7 +28,7 @@ impl TimerCount {
     pub fn free_run_tick(self) -> TimerCount
         ensures { λ r. ⌜ r ≡ freeRunTick self ⌝ }
     {
-        TimerCount(integers::wrapping_add_i32(self.0, TICK))
+        TimerCount(signed::wrapping_add_i32(self.0, TICK))
     }
 
     pub fn watchdog_tick(self) -> TimerCount
@@ -41,7 +41,7 @@ impl TimerCount {
     pub fn out_timer_tick(self) -> TimerCount
         ensures { λ r. ⌜ r ≡ outTimerTick self ⌝ }
     {
-        TimerCount(integers::wrapping_sub_i32(self.0, TICK))
+        TimerCount(signed::wrapping_sub_i32(self.0, TICK))
     }
 
     // FBTimer counts through zero, and a negative count means that the time has passed: it must
@@ -80,5 +80,5 @@ impl OperatingCount {
 pub fn counter_step(n: i32) -> i32
     ensures { λ r. ⌜ r ≡ counterStep n ⌝ }
 {
-    integers::wrapping_add_i32(n, 1)
+    signed::wrapping_add_i32(n, 1)
 }

@@ -1,9 +1,7 @@
-// The numbers of the PD 3120 channel box. Nothing above this crate looks at bits.
-pub mod bytes; // numbers to and from bytes, high byte first
+// Counts of time and Reals. Nothing above this crate looks at the bits of a Real.
 pub mod counts; // timer and operating counts, and how a tick moves them
-pub mod integers; // signed numbers that wrap, and their bits
-pub mod reals; // Reals and their bits
-pub mod times; // Reals to counts and back
+pub mod reals; // Reals, their bits and their bytes
+pub mod times; // counts read as Reals, and Reals that become counts
 pub mod written; // which Reals a register allows, and what they become
 
 pub use counts::OperatingCount;

@@ -1,7 +1,10 @@
 // Reals of 32 bits and their bit patterns. There is one NaN.
 ghost use mathlib.Core.Path.{_≡_};
+ghost use mathlib.Core.List.{[], _∷_};
 ghost use lib.Ieee.{binary32, toBits, ofBits};
 ghost use lib.Ieee.Scale.{finite};
+ghost use Rattle.numbers.specs.Reals.{realFrom, realBytes};
+use integers::bytes;
 
 // Every NaN pattern is the one NaN.
 pub fn of_bits(bits: u32) -> f32
@@ -29,4 +32,16 @@ pub fn is_finite(x: f32) -> bool
 {
     let inf: f32 = 1.0 / 0.0;
     if x < inf { -inf < x } else { false }
+}
+
+pub fn of_bytes(a: u8, b: u8, c: u8, d: u8) -> f32
+    ensures { λ r. ⌜ r ≡ realFrom (a ∷ b ∷ c ∷ d ∷ []) ⌝ }
+{
+    of_bits(bytes::u32_of_bytes(a, b, c, d))
+}
+
+pub fn bytes_of(x: f32) -> [u8; 4]
+    ensures { λ r. ⌜ r ≡ realBytes x ⌝ }
+{
+    bytes::bytes_of_u32(bits_of(x))
 }

@@ -13,6 +13,7 @@ use crate::counts::TimerCount;
 
 // Timer counts are in 1/2^8 s, operating counts in 1/2^3 s.
 pub(crate) const TIMER: u32 = 8;
+
 pub(crate) const OPERATING: u32 = 3;
 
 // n / d to the nearest whole number, a tie to the even one.

@@ -10,7 +10,7 @@ use mir.Syntax.{w32, w64}
 use mir.Val.{SFits, toZ, ofZ}
 use mir.ValLaws.{toZ-ofZ}
 use borrow.Author.Tests.{ltb-false}
-use Rattle.numbers.specs.Integers.{larger}
+use Rattle.integers.specs.Integers.{larger}
 
 -- a number as code reads it back from a local of 32 bits, and of 64
 abbrev pub in32 : ℤ → ℤ

@@ -1,7 +1,7 @@
 -- `counts::counter_step` meets its contract. Assumes nothing.
 use borrow.Author.Needs.{needs}
 use lib.IntN.{ℤ, pos, _+ℤ_}
-use Rattle.numbers.specs.Integers.{wrapped}
+use Rattle.integers.specs.Integers.{wrapped}
 use Rattle.numbers.specs.Counts.{counterStep}
 use Rattle.numbers.proofs.Laws.Reads.{stepped}
 use Rattle.numbers.proofs.counts.counter_step.Statement.{statement}

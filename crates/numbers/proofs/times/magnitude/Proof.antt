@@ -5,7 +5,7 @@ use native.Mathlib.Numerals.{add-one}
 use native.Mathlib.Omega.{arith}
 use mir.Syntax.{w32}
 use mir.Val.{Fits}
-use Rattle.numbers.proofs.Laws.Signs.{Negative, Positive, negative, positive}
+use Rattle.integers.proofs.Laws.Signs.{Negative, Positive, negative, positive}
 use Rattle.numbers.proofs.times.magnitude.Statement.{statement}
 use Rattle.numbers.proofs.times.magnitude.Tie as tie
 

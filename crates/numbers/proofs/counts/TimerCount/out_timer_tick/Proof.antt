@@ -2,7 +2,7 @@
 use borrow.Author.Needs.{needs}
 use mathlib.Core.Path.{ap}
 use lib.IntN.{ℤ, pos, _-ℤ_}
-use Rattle.numbers.specs.Integers.{wrapped}
+use Rattle.integers.specs.Integers.{wrapped}
 use Rattle.numbers.specs.Counts.{timer, outTimerTick}
 use Rattle.numbers.proofs.Laws.Reads.{stepped}
 use Rattle.numbers.proofs.counts.TimerCount.out_timer_tick.Statement.{statement}

@@ -2,7 +2,7 @@
 use borrow.Author.Needs.{needs}
 use mathlib.Core.Path.{ap}
 use lib.IntN.{ℤ, pos, _-ℤ_}
-use Rattle.numbers.specs.Integers.{larger}
+use Rattle.integers.specs.Integers.{larger}
 use Rattle.numbers.specs.Counts.{timer, watchdogTick}
 use Rattle.numbers.proofs.Laws.Reads.{stepped}
 use Rattle.numbers.proofs.counts.TimerCount.watchdog_tick.Statement.{statement}

@@ -1,0 +1,24 @@
+-- `signed::i32_of_bits` meets its contract. Assumes nothing.
+use borrow.Author.Needs.{needs}
+use mathlib.Core.Path.{_≡_, sym, ap, _∙_}
+use mir.Syntax.{w32}
+use mir.Val.{toZ}
+use Rattle.integers.proofs.Laws.Residues.{bits-signed}
+use Rattle.integers.proofs.Laws.Signs.{flip-twice}
+use Rattle.integers.proofs.signed.i32_of_bits.Statement.{statement}
+use Rattle.integers.proofs.signed.i32_of_bits.Tie as tie
+
+cast-result : tie.Need-cast-result
+cast-result c = search needs
+
+returns : tie.Need-returns
+returns c = sym (bits-signed w32 (c .before .args .n) (c .before .fits .n))
+
+cast-result-2 : tie.Need-cast-result-2
+cast-result-2 c = search needs
+
+returns-2 : tie.Need-returns-2
+returns-2 c = ap (toZ w32) (flip-twice w32 (c .before .args .n) (c .before .fits .n)) ∙ sym (bits-signed w32 (c .before .args .n) (c .before .fits .n))
+
+pub i32-of-bits-spec : {M : Type 1} → statement M
+i32-of-bits-spec = tie.close (tie.spec cast-result returns cast-result-2 returns-2)

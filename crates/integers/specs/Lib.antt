@@ -1,0 +1,3 @@
+-- What whole numbers of a fixed width mean, and their bytes on the wire.
+pub mod Integers
+pub mod Bytes
