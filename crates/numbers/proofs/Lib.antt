@@ -1,2 +1,4 @@
--- Laws that belong to no one function.
+-- Laws that belong to no one function, and the proofs of the table and the claims.
 pub mod Laws
+pub mod Table
+pub mod Claims

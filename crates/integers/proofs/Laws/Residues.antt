@@ -2,9 +2,9 @@
 use mathlib.Core.Path.{_≡_, refl, sym, ap, _∙_}
 use mathlib.Core.Bool.{Bool, true, false, not, cond, true≢false}
 use Prim.Native.Nat.{ℕ, suc, _+_, _-_, _%_, _^_, _≤_, _<_}
-use native.Mathlib.Nat.{mod-eq-of-lt}
+use native.Mathlib.Nat.{mod-eq-of-lt, mod-lt}
 use native.Mathlib.Omega.{arith}
-use lib.Dec.{T, ltb, ltb→lt, nltb→le}
+use lib.Dec.{T, ltb, ltb→lt, nltb→le, lit<}
 use lib.IntN.{ℤ, pos, negsuc, negℤ, natAbs, _+ℤ_, _-ℤ_, +ℤ-assoc, +ℤ-invl, +ℤ-idr}
 use lib.Signed.{ltZ, nonNeg}
 use mir.Syntax.{Width}
@@ -49,17 +49,17 @@ modulo-add (pos a) (negsuc b) = plus-minus a b
 modulo-add (negsuc a) (pos b) = omega (arith, plus-minus b a)
 modulo-add (negsuc a) (negsuc b) = omega arith
 
-modulo-lt : (z : ℤ) → modulo z 4294967296 < 4294967296
+pub modulo-lt : (z : ℤ) (m : ℕ) → 0 < m → modulo z m < m
 unfolding modulo
-modulo-lt (pos n) = omega arith
-modulo-lt (negsuc n) = omega arith
+modulo-lt (pos n) m M = mod-lt n M
+modulo-lt (negsuc n) m M = omega arith
 
 -- the number that b added to gives a again
 pub modulo-sub : (a b : ℤ) (r : ℕ) → r < 4294967296 → (r + modulo b 4294967296) % 4294967296 ≡ modulo a 4294967296 → r ≡ modulo (a -ℤ b) 4294967296
 modulo-sub a b r R e =
     let back : (a -ℤ b) +ℤ b ≡ a = +ℤ-assoc a (negℤ b) b ∙ ap (λ (z : ℤ). a +ℤ z) (+ℤ-invl b) ∙ +ℤ-idr a in
     let d : (modulo (a -ℤ b) 4294967296 + modulo b 4294967296) % 4294967296 ≡ modulo a 4294967296 = sym (modulo-add (a -ℤ b) b) ∙ ap (λ (z : ℤ). modulo z 4294967296) back in
-    cancel r (modulo (a -ℤ b) 4294967296) (modulo b 4294967296) R (modulo-lt (a -ℤ b)) (modulo-lt b) (e ∙ sym d)
+    cancel r (modulo (a -ℤ b) 4294967296) (modulo b 4294967296) R (modulo-lt (a -ℤ b) 4294967296 (lit< tt)) (modulo-lt b 4294967296 (lit< tt)) (e ∙ sym d)
   where
     cancel : (x y m : ℕ) → x < 4294967296 → y < 4294967296 → m < 4294967296 → (x + m) % 4294967296 ≡ (y + m) % 4294967296 → x ≡ y
     cancel x y m X Y M e = omega arith

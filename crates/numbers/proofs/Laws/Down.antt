@@ -36,6 +36,14 @@ minus-fits (pos n) f Z F e = let h = Z .sfits in record { sfits = either (ltb n 
 minus-fits (negsuc k) (pos m) Z F e = absurd (true≢false e)
 minus-fits (negsuc k) (negsuc m) Z F e = let h = F .sfits in let l = ltb-false m _ e in record { sfits = omega arith }
 
+pub larger-fits : (z f : ℤ) → SFits w32 z → SFits w32 f → SFits w32 (larger (z -ℤ pos 8) f)
+unfolding larger
+larger-fits z f Z F = go (ltZ (z -ℤ pos 8) f) refl
+  where
+    go : (b : Bool) → ltZ (z -ℤ pos 8) f ≡ b → SFits w32 (cond b f (z -ℤ pos 8))
+    go true e = F
+    go false e = minus-fits z f Z F e
+
 module _ (n f : ℤ) (N : SFits w32 n) (F : SFits w32 f) where
   pub wide : SFits w64 (in32 n)
   wide = rw (toZ-ofZ w32 n N) (widen n N)

@@ -125,9 +125,15 @@ module _ (x : Float) (t : T (presetAllowed x)) where
   pub preset-under : T (under 256 4294967296 x)
   preset-under = under-more 256 2147483648 4294967296 x (lit≤ tt) preset-half
 
-  pub preset-fits : T (fits binary32 x) → SFits w32 (countOf 256 x)
+  pub preset-count : countOf 256 x ≡ pos (unitsOf 256 x)
   unfolding from ofInt
-  preset-fits F = subst (SFits w32) (natural-count 256 x (both (from (pos 0) x) (below (pos 8388608) x) t .0)) (record { sfits = units-31 x 8 F (lit≤ tt) preset-half preset-under })
+  preset-count = sym (natural-count 256 x (both (from (pos 0) x) (below (pos 8388608) x) t .0))
+
+  pub preset-units : T (fits binary32 x) → unitsOf 256 x < 2147483648
+  preset-units F = units-31 x 8 F (lit≤ tt) preset-half preset-under
+
+  pub preset-fits : T (fits binary32 x) → SFits w32 (countOf 256 x)
+  preset-fits F = subst (SFits w32) (sym preset-count) (record { sfits = preset-units F })
 
 -- ---- OperatingTime: 0 ≤ x < 536870912
 module _ (x : Float) (t : T (operatingAllowed x)) where
