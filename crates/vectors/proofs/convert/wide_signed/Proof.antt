@@ -1,0 +1,18 @@
+-- `wide_signed` is safe: what 16 signed bits hold, 32 do.
+use borrow.Author.Needs.{needs}
+use mathlib.Core.Path.{sym, subst}
+use native.Mathlib.Omega.{arith}
+use mir.Syntax.{w16, w32}
+use mir.Val.{SFits}
+use mir.ValLaws.{toZ-ofZ}
+use Rattle.vectors.proofs.convert.wide_signed.Statement.{statement}
+use Rattle.vectors.proofs.convert.wide_signed.Tie as tie
+
+cast-result : tie.Need-cast-result
+cast-result c = subst (SFits w32) (sym (toZ-ofZ w16 (c .args .z) (c .fits .z))) (record { sfits = omega (arith, c .fits .z .sfits) })
+
+returns : tie.Need-returns
+returns c = search needs
+
+pub wide-signed-spec : {M : Type 1} → statement M
+wide-signed-spec = tie.close (tie.spec cast-result returns)
