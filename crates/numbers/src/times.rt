@@ -26,8 +26,11 @@ fn nearest_quotient(n: u64, d: u64) -> u64
     if twice < d {
         return q;
     }
-    if twice == d {
-        return q + q % 2;
+    if twice > d {
+        return q + 1;
+    }
+    if q % 2 == 0 {
+        return q;
     }
     q + 1
 }

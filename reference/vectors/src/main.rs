@@ -61,9 +61,12 @@ fn write_vectors(directory: &Path) -> io::Result<()> {
 
 fn main() -> ExitCode {
     let arguments: Vec<OsString> = env::args_os().skip(1).collect();
-    let [directory] = arguments.as_slice() else {
-        eprintln!("usage: vectors OUTDIR");
-        return ExitCode::from(2);
+    let directory = match arguments.as_slice() {
+        [directory] => directory,
+        _ => {
+            eprintln!("usage: vectors OUTDIR");
+            return ExitCode::from(2);
+        }
     };
     match write_vectors(Path::new(directory)) {
         Ok(()) => ExitCode::SUCCESS,

@@ -49,7 +49,7 @@ impl Words {
     /// The word and all within `reach` of it, going round the ends.
     fn add_around(&mut self, word: u32, reach: i32) {
         for offset in -reach..=reach {
-            self.add(word.wrapping_add_signed(offset));
+            self.add(word.wrapping_add(offset as u32));
         }
     }
 
@@ -133,7 +133,7 @@ impl Words {
             (124..=146, OPERATING_UNITS)
         };
         let bits = self.random.real(exponents) | 1;
-        let rest_left = Finite::from_bits(bits).is_some_and(|real| real.units(units).1);
+        let rest_left = Finite::from_bits(bits).map_or(false, |real| real.units(units).1);
         assert!(rest_left, "{bits:08x} is a whole count");
         bits
     }
