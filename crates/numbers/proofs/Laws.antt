@@ -1,5 +1,3 @@
-pub mod Reads
-pub mod Down
 pub mod Floats
 pub mod Quotient
 pub mod Value

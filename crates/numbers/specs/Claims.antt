@@ -4,15 +4,13 @@ use mathlib.Core.Bool.{not}
 use mathlib.Core.List.{List, [], _∷_}
 use Prim.Native.Nat.{ℕ, _^_, _<_}
 use lib.Dec.{T}
-use lib.IntN.{ℤ, pos}
+use lib.IntN.{pos}
 use lib.ListN.{length}
 use lib.Pow.{areBytes}
 use lib.Ieee.{Float, nan, binary32, isNan, fits}
 use mir.Syntax.{w32}
 use mir.Val.{SFits}
-use Rattle.numbers.specs.declared.counts.TimerCount.{TimerCount}
-use Rattle.numbers.specs.declared.counts.OperatingCount.{OperatingCount}
-use Rattle.numbers.specs.Counts.{timerUnits, operatingUnits, freeRunTick, watchdogTick, outTimerTick, feedbackTick, operatingStep, counterStep}
+use Rattle.counts.specs.Counts.{timerUnits, operatingUnits}
 use Rattle.numbers.specs.Reals.{realFrom, realBytes, unitsOf, countOf}
 use Rattle.numbers.specs.Written.{timerAllowed, presetAllowed, operatingAllowed}
 
@@ -27,12 +25,3 @@ pub record WritesHeld : Type 0 where
   pub timers : (x : Float) → T (fits binary32 x) → T (timerAllowed x) → SFits w32 (countOf timerUnits x)
   pub presets : (x : Float) → T (fits binary32 x) → T (presetAllowed x) → (countOf timerUnits x ≡ pos (unitsOf timerUnits x)) × (unitsOf timerUnits x < 2 ^ 31)
   pub operating : (x : Float) → T (fits binary32 x) → T (operatingAllowed x) → unitsOf operatingUnits x < 2 ^ 32
-
--- A step leaves a count in its 32 bits.
-pub record StepsHeld : Type 0 where
-  pub freeRun : (t : TimerCount) → SFits w32 (freeRunTick t .0)
-  pub watchdog : (t : TimerCount) → SFits w32 (t .0) → SFits w32 (watchdogTick t .0)
-  pub outTimer : (t : TimerCount) → SFits w32 (outTimerTick t .0)
-  pub feedback : (t : TimerCount) → SFits w32 (t .0) → SFits w32 (feedbackTick t .0)
-  pub operating : (n : OperatingCount) → operatingStep n .0 < 2 ^ 32
-  pub counter : (n : ℤ) → SFits w32 (counterStep n)

@@ -1,5 +1,4 @@
--- What the box's counts and Reals mean: document 01, "Time and amperes", and the counts' part of "A tick".
-pub mod Counts
+-- What the box's Reals mean, and which of them its registers take: document 01, "Time and amperes".
 pub mod Reals
 pub mod Written
 pub mod Table

@@ -4,7 +4,7 @@ use Prim.Native.Nat.{ℕ}
 use lib.IntN.{ℤ, pos, negℤ}
 use lib.Ieee.{binary32, ofBits, toBits}
 use Rattle.numbers.specs.declared.written.TimerValue.{TimerValue}
-use Rattle.numbers.specs.Counts.{timer, timerUnits}
+use Rattle.counts.specs.Counts.{timer, timerUnits}
 use Rattle.numbers.specs.Reals.{realOf}
 use Rattle.numbers.specs.Written.{timerWritten}
 

@@ -6,7 +6,7 @@ use lib.Ieee.Scale.{finite}
 use Rattle.numbers.specs.declared.written.TimerValue.{TimerValue}
 use Rattle.numbers.specs.declared.written.OperatingValue.{OperatingValue}
 use Rattle.numbers.specs.declared.written.CurrentValue.{CurrentValue}
-use Rattle.numbers.specs.Counts.{timerUnits, operatingUnits}
+use Rattle.counts.specs.Counts.{timerUnits, operatingUnits}
 use Rattle.numbers.specs.Reals.{unitsOf, countOf}
 
 -- low ≤ x; x < high; x ≤ high

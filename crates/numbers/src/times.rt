@@ -6,10 +6,10 @@ ghost use lib.Dec.{T};
 ghost use lib.IntN.{pos, natAbs};
 ghost use lib.Ieee.{binary32, round};
 ghost use lib.Ieee.Nearest.{closest};
-ghost use Rattle.numbers.specs.Counts.{timerUnits, operatingUnits};
+ghost use Rattle.counts.specs.Counts.{timerUnits, operatingUnits};
 ghost use Rattle.numbers.specs.Reals.{whole, unitsOf, countOf, realOf, under};
-use crate::counts::OperatingCount;
-use crate::counts::TimerCount;
+use counts::OperatingCount;
+use counts::TimerCount;
 
 // Timer counts are in 1/2^8 s, operating counts in 1/2^3 s.
 pub(crate) const TIMER: u32 = 8;

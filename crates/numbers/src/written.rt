@@ -2,10 +2,10 @@
 // range. Any f32 is answered.
 ghost use mathlib.Core.Path.{_≡_};
 ghost use Rattle.numbers.specs.Written.{timerAllowed, presetAllowed, operatingAllowed, limitAllowed, timerWritten, presetWritten, operatingWritten, limitWritten, currentWritten};
-use crate::counts::OperatingCount;
-use crate::counts::TimerCount;
 use crate::reals;
 use crate::times;
+use counts::OperatingCount;
+use counts::TimerCount;
 
 pub enum TimerValue {
     Count(TimerCount),

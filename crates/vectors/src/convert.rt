@@ -1,9 +1,8 @@
 // What a word becomes: the conversions of the crates under test, by the kinds that reference/vectors
 // names.
+use counts::OperatingCount;
+use counts::TimerCount;
 use integers::bytes;
-use numbers::OperatingCount;
-use numbers::TimerCount;
-use numbers::counts;
 use numbers::reals;
 use numbers::times;
 use numbers::written;

@@ -9,7 +9,7 @@ use mir.Syntax.{w32, w64}
 use mir.Val.{SFits, toZ, ofZ}
 use mir.ValLaws.{toZ-ofZ}
 use Rattle.numbers.specs.declared.written.TimerValue.{TimerValue}
-use Rattle.numbers.specs.Counts.{timer}
+use Rattle.counts.specs.Counts.{timer}
 use Rattle.numbers.specs.Reals.{countOf}
 use Rattle.numbers.specs.Written.{presetAllowed, presetWritten}
 use Rattle.numbers.proofs.Laws.Range.{preset-under, preset-fits}

@@ -1,0 +1,84 @@
+// Counts of time: a timer's in 1/256 s, an operating time's in 1/8 s. They are two types, so that
+// neither is taken for the other.
+ghost use mathlib.Core.Path.{_≡_};
+ghost use lib.IntN.{pos, _-ℤ_};
+ghost use Rattle.integers.specs.Integers.{larger};
+ghost use Rattle.counts.specs.Counts.{freeRunTick, watchdogTick, outTimerTick, feedbackTick, operatingStep, counterStep, isNegative, isPositive};
+use integers::signed;
+
+pub struct TimerCount(pub i32);
+
+pub struct OperatingCount(pub u32);
+
+// A tick is 1/32 s.
+const TICK: i32 = 8;
+
+// A count less a tick, stopping at floor. An i64 holds the difference whatever the count.
+fn down_to(n: i32, floor: i32) -> i32
+    ensures { λ r. ⌜ r ≡ larger (n -ℤ pos 8) floor ⌝ }
+{
+    let next = (n as i64) - (TICK as i64);
+    if next < (floor as i64) {
+        return floor;
+    }
+    next as i32
+}
+
+impl TimerCount {
+    pub fn free_run_tick(self) -> TimerCount
+        ensures { λ r. ⌜ r ≡ freeRunTick self ⌝ }
+    {
+        TimerCount(signed::wrapping_add_i32(self.0, TICK))
+    }
+
+    pub fn watchdog_tick(self) -> TimerCount
+        ensures { λ r. ⌜ r ≡ watchdogTick self ⌝ }
+    {
+        TimerCount(down_to(self.0, 0))
+    }
+
+    // The manual's timer goes on from its largest value.
+    pub fn out_timer_tick(self) -> TimerCount
+        ensures { λ r. ⌜ r ≡ outTimerTick self ⌝ }
+    {
+        TimerCount(signed::wrapping_sub_i32(self.0, TICK))
+    }
+
+    // FBTimer counts through zero, and a negative count means that the time has passed: it must
+    // not come round to a positive one.
+    pub fn feedback_tick(self) -> TimerCount
+        ensures { λ r. ⌜ r ≡ feedbackTick self ⌝ }
+    {
+        TimerCount(down_to(self.0, -2147483648))
+    }
+
+    pub fn negative(self) -> bool
+        ensures { λ r. ⌜ r ≡ isNegative self ⌝ }
+    {
+        self.0 < 0
+    }
+
+    pub fn positive(self) -> bool
+        ensures { λ r. ⌜ r ≡ isPositive self ⌝ }
+    {
+        self.0 > 0
+    }
+}
+
+impl OperatingCount {
+    pub fn step(self) -> OperatingCount
+        ensures { λ r. ⌜ r ≡ operatingStep self ⌝ }
+    {
+        let n = self.0;
+        if n < 4294967295 {
+            return OperatingCount(n + 1);
+        }
+        OperatingCount(4294967295)
+    }
+}
+
+pub fn counter_step(n: i32) -> i32
+    ensures { λ r. ⌜ r ≡ counterStep n ⌝ }
+{
+    signed::wrapping_add_i32(n, 1)
+}
