@@ -15,6 +15,7 @@ timerUnits = 256
 abbrev pub operatingUnits : ℕ
 operatingUnits = 8
 
+-- a timer count by its number
 abbrev pub timer : ℤ → TimerCount
 timer z = record { 0 = z }
 

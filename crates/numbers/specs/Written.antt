@@ -1,4 +1,4 @@
--- Document 01, "Time and amperes": which Reals a register allows, and what an allowed one becomes. A NaN is in no range, and −0 tests as 0. Definitions only.
+-- Document 01, "Time and amperes": which Reals a register allows, and what an allowed one becomes. A NaN or an infinity is in no range, and −0 tests as 0. Definitions only.
 use mathlib.Core.Bool.{Bool, _&&_, cond}
 use lib.IntN.{ℤ, pos, negℤ}
 use lib.Ieee.{Float, binary32, ofInt, le, lt}

@@ -6,11 +6,11 @@ ghost use lib.Ieee.Scale.{finite};
 ghost use Rattle.numbers.specs.Reals.{realFrom, realBytes};
 use integers::bytes;
 
-// Every NaN pattern is the one NaN.
+// Every pattern whose magnitude is above the infinity's is the one NaN.
 pub fn of_bits(bits: u32) -> f32
     ensures { λ r. ⌜ r ≡ ofBits binary32 bits ⌝ }
 {
-    if bits % 2147483648 > 2139095040 {
+    if bits % 0x8000_0000 > 0x7F80_0000 {
         return 0.0 / 0.0;
     }
     f32::from_bits(bits)

@@ -16,6 +16,12 @@ pub(crate) const TIMER: u32 = 8;
 
 pub(crate) const OPERATING: u32 = 3;
 
+// A Real's bits from the top: its sign, the exponent's field, and 23 digits below the leading one,
+// whose weight is also that of the field's lowest bit.
+const SIGN: u32 = 0x8000_0000;
+
+const LEADING: u32 = 0x80_0000;
+
 // n / d to the nearest whole number, a tie to the even one.
 fn nearest_quotient(n: u64, d: u64) -> u64
     requires { ⌜ (n < 2 ^ 63) × (0 < d) × (d < 2 ^ 63) ⌝ }
@@ -35,18 +41,18 @@ fn nearest_quotient(n: u64, d: u64) -> u64
     q + 1
 }
 
-// The sign of a Real, as its highest bit.
 fn sign_bit(negative: bool) -> u32
     ensures { λ r. ⌜ r ≡ cond negative 2147483648 0 ⌝ }
 {
     if negative {
-        return 2147483648;
+        return SIGN;
     }
     0
 }
 
-// The Real nearest to n counts, a tie to the even last bit. The leading zeros of n give the exponent;
-// where the 24 digits round up to 2^24, the sum carries into it.
+// The Real nearest to n counts, a tie to the even last bit. The leading zeros of n give the exponent:
+// its field is 127 + 31 - unit - zeros, of which the leading digit brings the last 1. Where the 24
+// digits round up to 2^24, the sum carries into the field.
 fn real_of(negative: bool, n: u32, unit: u32) -> f32
     requires { ⌜ unit ≤ 8 ⌝ }
     ensures { λ r. ⌜ r ≡ round binary32 negative n (2 ^ unit) ⌝ }
@@ -57,7 +63,7 @@ fn real_of(negative: bool, n: u32, unit: u32) -> f32
     }
     let zeros = u32::leading_zeros(n);
     let digits = nearest_quotient((n as u64) << zeros, 256) as u32;
-    f32::from_bits(sign + (157 - unit - zeros) * 8388608 + digits)
+    f32::from_bits(sign + (157 - unit - zeros) * LEADING + digits)
 }
 
 // The magnitude of n, 2^31 at the least number.
@@ -91,18 +97,19 @@ fn whole_quotient(n: u64, d: u64) -> u64
     n / d
 }
 
-// The magnitude of x in counts. Below 2^-27 s it is less than half a count of either unit.
+// The magnitude of x in counts. Where the exponent's field is below 100, x is below 2^-27 s, which is
+// less than half a count of either unit.
 fn units_of(x: f32, unit: u32) -> u64
     requires { ⌜ (unit ≤ 8) × T (under (2 ^ unit) (2 ^ 32) x) ⌝ }
     ensures { λ r. ⌜ r ≡ unitsOf (2 ^ unit) x ⌝ }
 {
-    let bits = f32::to_bits(x) % 2147483648;
-    let exponent = bits / 8388608;
+    let bits = f32::to_bits(x) % SIGN;
+    let exponent = bits / LEADING;
     if exponent < 100 {
         return 0;
     }
     let divisor = 1u64 << (158 - unit - exponent);
-    let digits = 8388608 + bits % 8388608;
+    let digits = LEADING + bits % LEADING;
     whole_quotient((digits as u64) * 256, divisor)
 }
 
