@@ -1,0 +1,5 @@
+pub mod Tests
+pub mod Lists
+pub mod Places
+pub mod Inputs
+pub mod Alike

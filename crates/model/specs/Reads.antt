@@ -1,0 +1,113 @@
+-- Document 01, "Registers": the bytes that each register gives when it is read, and what reading leaves. Definitions only.
+use mathlib.Core.Bool.{Bool, true, false, cond}
+use mathlib.Core.List.{List, [], _∷_, _++_, map}
+use Prim.Native.Nat.{ℕ}
+use lib.IntN.{ℤ, pos}
+use Rattle.integers.specs.Bytes.{bytesOf, signedBytes}
+use Rattle.counts.specs.declared.TimerCount.{TimerCount}
+use Rattle.counts.specs.Counts.{timerUnits, operatingUnits}
+use Rattle.numbers.specs.Reals.{realOf, realBytes}
+use Rattle.model.specs.declared.Config.{Config}
+use Rattle.model.specs.declared.Channel.{Channel}
+use Rattle.model.specs.declared.Module.{Module}
+use Rattle.model.specs.declared.ServiceRegister.{ServiceRegister}
+use Rattle.model.specs.declared.DigitalRegister.{DigitalRegister}
+use Rattle.model.specs.declared.CommonRegister.{CommonRegister}
+use Rattle.model.specs.declared.ServiceRegister.the-variants.{Highest, Reset, FreeRunTimer, WDTimer, ModuleConfig, WDPreset, WriteEnable, CommonError}
+use Rattle.model.specs.declared.DigitalRegister.the-variants.{FlagReg, OutTimer, Counter, OutCurrent, OperatingTime, UserBytes, FBTimer, FBPreset, OutPreset, ChConfig, MinCurrent, MaxCurrent, UserReals, Maintenance, ChError}
+use Rattle.model.specs.declared.CommonRegister.the-variants.{OutFlags, InFlags, IOChError, ChError as CommonChError}
+use Rattle.model.specs.State.{outFlag, inFlag, control, fbStatus, outTimer, fbTimer, outPreset, fbPreset, withServiceRecord, channelAt, putChannel}
+use Rattle.model.specs.Settings.{inA, inB}
+use Rattle.model.specs.Channel.{acknowledged}
+use Rattle.model.specs.Errors.{num, byteOf, wordOf, any, errorByte, hasHis, hasAct, chError, commonErrorBytes, serviceAcknowledged}
+use Rattle.model.specs.Registers.{Place, service, digital, common, unlisted, beyond}
+use Rattle.model.specs.Tick.{levels}
+
+abbrev pub timerBytes : TimerCount → List ℕ
+timerBytes t = realBytes (realOf timerUnits (t .0))
+
+abbrev pub configBytes : Config → List ℕ
+configBytes g = g .enable ∷ g .function ∷ g .a ∷ g .b ∷ []
+
+-- "FlagReg bits: 7 OutFlag, 6 InFlag, 5 InA, 4 InB, 3 Control, 2 FBStatus, 1 Act not 0, 0 zero"
+unfoldable pub flagReg : List Bool → Channel → ℕ
+flagReg levels ch = byteOf (outFlag ch ∷ inFlag ch ∷ inA levels ch ∷ inB levels ch ∷ control ch ∷ fbStatus ch ∷ hasAct ch ∷ false ∷ [])
+
+-- "2 bytes, bit k−1 for channel k"
+abbrev pub channelWord : (Channel → Bool) → List Channel → List ℕ
+channelWord p cs = bytesOf 2 (wordOf (map p cs))
+
+unfoldable pub serviceBytes : ServiceRegister → Module → List ℕ
+serviceBytes Highest m = bytesOf 2 0x011F
+serviceBytes Reset m = 0 ∷ []
+serviceBytes FreeRunTimer m = signedBytes 4 (m .shared .timer .0)
+serviceBytes WDTimer m = timerBytes (m .service .watchdog)
+serviceBytes ModuleConfig m = configBytes (m .shared .config)
+serviceBytes WDPreset m = timerBytes (m .shared .preset)
+serviceBytes WriteEnable m = num (m .shared .enabled) ∷ []
+serviceBytes CommonError m = commonErrorBytes m
+
+unfoldable pub digitalBytes : DigitalRegister → List Bool → Channel → List ℕ
+digitalBytes FlagReg levels ch = flagReg levels ch ∷ []
+digitalBytes OutTimer levels ch = timerBytes (outTimer ch)
+digitalBytes Counter levels ch = signedBytes 4 (ch .counter)
+digitalBytes OutCurrent levels ch = realBytes (ch .currents .out)
+digitalBytes OperatingTime levels ch = realBytes (realOf operatingUnits (pos (ch .operating .0)))
+digitalBytes UserBytes levels ch = ch .user
+digitalBytes FBTimer levels ch = timerBytes (fbTimer ch)
+digitalBytes FBPreset levels ch = timerBytes (fbPreset ch)
+digitalBytes OutPreset levels ch = timerBytes (outPreset ch)
+digitalBytes ChConfig levels ch = configBytes (ch .config)
+digitalBytes MinCurrent levels ch = realBytes (ch .currents .min)
+digitalBytes MaxCurrent levels ch = realBytes (ch .currents .max)
+digitalBytes UserReals levels ch = ch .reals
+digitalBytes Maintenance levels ch = ch .service
+digitalBytes ChError levels ch = chError (errorByte (ch .errors .his)) (errorByte (ch .errors .act))
+
+unfoldable pub commonBytes : CommonRegister → List Channel → List ℕ
+commonBytes OutFlags cs = channelWord outFlag cs
+commonBytes InFlags cs = channelWord inFlag cs
+commonBytes IOChError cs = channelWord hasHis cs ++ channelWord hasAct cs
+commonBytes CommonChError cs = chError (num (any hasHis cs)) (num (any hasAct cs))
+
+unfoldable pub bytesRead : Place → Module → List ℕ
+bytesRead (service r) m = serviceBytes r m
+bytesRead (digital k r) m = digitalBytes r (levels m) (channelAt m k)
+bytesRead (common r) m = commonBytes r (m .channels)
+bytesRead unlisted m = []
+bytesRead beyond m = []
+
+-- "Reading a digital ChError or CommonError gives the old bytes, then that His := its Act"
+abbrev pub serviceRead : ServiceRegister → Module → Module
+serviceRead Highest m = m
+serviceRead Reset m = m
+serviceRead FreeRunTimer m = m
+serviceRead WDTimer m = m
+serviceRead ModuleConfig m = m
+serviceRead WDPreset m = m
+serviceRead WriteEnable m = m
+serviceRead CommonError m = withServiceRecord (serviceAcknowledged (m .service)) m
+
+abbrev pub digitalRead : DigitalRegister → Channel → Channel
+digitalRead FlagReg ch = ch
+digitalRead OutTimer ch = ch
+digitalRead Counter ch = ch
+digitalRead OutCurrent ch = ch
+digitalRead OperatingTime ch = ch
+digitalRead UserBytes ch = ch
+digitalRead FBTimer ch = ch
+digitalRead FBPreset ch = ch
+digitalRead OutPreset ch = ch
+digitalRead ChConfig ch = ch
+digitalRead MinCurrent ch = ch
+digitalRead MaxCurrent ch = ch
+digitalRead UserReals ch = ch
+digitalRead Maintenance ch = ch
+digitalRead ChError ch = acknowledged ch
+
+unfoldable pub afterRead : Place → Module → Module
+afterRead (service r) m = serviceRead r m
+afterRead (digital k r) m = putChannel k (digitalRead r (channelAt m k)) m
+afterRead (common r) m = m
+afterRead unlisted m = m
+afterRead beyond m = m

@@ -1,0 +1,50 @@
+-- Demand 1: "Refused first", "Each gets its own number, leaves the lent buffer untouched and leaves the box as document 01 fixes." The proof is in proofs/Refusals.antt.
+use mathlib.Core.Path.{_≡_}
+use mathlib.Core.Bool.{Bool, true, false}
+use mathlib.Core.List.{List, [], _∷_, _++_}
+use Prim.Native.Nat.{ℕ}
+use lib.ListN.{length}
+use Rattle.model.specs.declared.Module.{Module}
+use Rattle.model.specs.declared.Refusal.{Refusal}
+use Rattle.model.specs.declared.Reply.{Reply}
+use Rattle.model.specs.declared.Reply.the-variants.{Done, Refused}
+use Rattle.model.specs.Errors.{dataError, generalError}
+use Rattle.model.specs.Image.{started, zeroSetup}
+use Rattle.model.specs.Questions.{Question, asked, refusalNumber, powerUpReply, storeReply}
+use Rattle.model.specs.Calls.{Request, read, write, level, current, tick, Answer, Stepped, step, wireAnswer, plainAnswer, cleared, preset, powerUp, stored}
+
+-- what a refused call leaves and answers: a wire call only its clearing and its preset, with the bits as they stand after the clearing; a sample nothing
+abbrev pub refusedAs : Module → Request → Refusal → Stepped
+refusedAs m (read n lent) r = record { answer = wireAnswer (Refused r) lent (cleared m); box = preset (cleared m) }
+refusedAs m (write n bs) r = record { answer = wireAnswer (Refused r) [] (cleared m); box = preset (cleared m) }
+refusedAs m (level k b) r = record { answer = plainAnswer (Refused r); box = m }
+refusedAs m (current k x) r = record { answer = plainAnswer (Refused r); box = m }
+refusedAs m tick r = record { answer = plainAnswer (Refused r); box = m }
+
+-- every question of a list is answered yes
+abbrev pub AllYes : List Question → Type 0
+AllYes [] = Unit {0}
+AllYes (q ∷ qs) = (q .yes ≡ true) × AllYes qs
+
+-- the refusal of the first question that is answered no
+pub record FirstNo (qs : List Question) (r : Refusal) : Type 0 where
+  pub before : List Question
+  pub question : Question
+  pub after : List Question
+  pub order : qs ≡ before ++ (question ∷ after)
+  pub yes : AllYes before
+  pub no : question .yes ≡ false
+  pub is : question .refusal ≡ r
+
+pub record Refusals : Type 0 where
+  -- a refused call changes no buffer and no box, save the wire call's clearing and preset
+  pub unchanged : (m : Module) (x : Request) (r : Refusal) → step m x .answer .reply ≡ Refused r → step m x ≡ refusedAs m x r
+  -- a refusal is given exactly where its question is the first whose answer is no
+  pub first : (qs : List Question) (n : ℕ) (r : Refusal) → asked qs (Done n) ≡ Refused r → FirstNo qs r
+  pub only : (qs : List Question) (n : ℕ) (r : Refusal) → FirstNo qs r → asked qs (Done n) ≡ Refused r
+  pub accepted : (qs : List Question) (n : ℕ) → AllYes qs → asked qs (Done n) ≡ Done n
+  -- each refusal has its own number
+  pub distinct : (r r′ : Refusal) → refusalNumber r ≡ refusalNumber r′ → r ≡ r′
+  -- a refused power-up gives the box of all-zero settings, and a refused storing leaves the buffer
+  pub start : (img : List ℕ) (r : Refusal) → powerUpReply img ≡ Refused r → powerUp img ≡ started zeroSetup
+  pub store : (m : Module) (lent : List ℕ) (r : Refusal) → storeReply lent ≡ Refused r → stored m lent ≡ lent

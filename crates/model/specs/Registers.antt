@@ -1,0 +1,111 @@
+-- Document 01, "Registers": the table. Definitions only.
+use mathlib.Core.Bool.{Bool, true, false, cond}
+use mathlib.Core.List.{List, [], _∷_}
+use Prim.Native.Nat.{ℕ, _/_, _%_}
+use lib.Dec.{eqb, ltb}
+use Rattle.model.specs.declared.Access.{Access}
+use Rattle.model.specs.declared.ServiceRegister.{ServiceRegister}
+use Rattle.model.specs.declared.DigitalRegister.{DigitalRegister}
+use Rattle.model.specs.declared.CommonRegister.{CommonRegister}
+use Rattle.model.specs.declared.Access.the-variants.{ReadOnly, Writable, Protected}
+use Rattle.model.specs.declared.ServiceRegister.the-variants.{Highest, Reset, FreeRunTimer, WDTimer, ModuleConfig, WDPreset, WriteEnable, CommonError}
+use Rattle.model.specs.declared.DigitalRegister.the-variants.{FlagReg, OutTimer, Counter, OutCurrent, OperatingTime, UserBytes, FBTimer, FBPreset, OutPreset, ChConfig, MinCurrent, MaxCurrent, UserReals, Maintenance, ChError}
+use Rattle.model.specs.declared.CommonRegister.the-variants.{OutFlags, InFlags, IOChError, ChError as CommonChError}
+
+-- a row of the table: the register's number in its channel, "R read only, P protected, W writable", and its size in bytes
+pub record Row : Type 0 where
+  pub number : ℕ
+  pub access : Access
+  pub size : ℕ
+
+abbrev pub R : ℕ → ℕ → Row
+R n size = record { number = n; access = ReadOnly; size = size }
+
+abbrev pub W : ℕ → ℕ → Row
+W n size = record { number = n; access = Writable; size = size }
+
+abbrev pub P : ℕ → ℕ → Row
+P n size = record { number = n; access = Protected; size = size }
+
+abbrev pub serviceRow : ServiceRegister → Row
+serviceRow Highest = R 0x0 2
+serviceRow Reset = W 0x3 1
+serviceRow FreeRunTimer = R 0x7 4
+serviceRow WDTimer = W 0x8 4
+serviceRow ModuleConfig = P 0x9 4
+serviceRow WDPreset = P 0xA 4
+serviceRow WriteEnable = W 0xD 1
+serviceRow CommonError = W 0xF 12
+
+abbrev pub digitalRow : DigitalRegister → Row
+digitalRow FlagReg = W 0x0 1
+digitalRow OutTimer = W 0x1 4
+digitalRow Counter = W 0x2 4
+digitalRow OutCurrent = W 0x3 4
+digitalRow OperatingTime = W 0x4 4
+digitalRow UserBytes = W 0x5 4
+digitalRow FBTimer = W 0x6 4
+digitalRow FBPreset = P 0x7 4
+digitalRow OutPreset = P 0x8 4
+digitalRow ChConfig = P 0x9 4
+digitalRow MinCurrent = P 0xA 4
+digitalRow MaxCurrent = P 0xB 4
+digitalRow UserReals = P 0xC 8
+digitalRow Maintenance = P 0xD 4
+digitalRow ChError = R 0xF 4
+
+abbrev pub commonRow : CommonRegister → Row
+commonRow OutFlags = W 0x0 2
+commonRow InFlags = W 0x1 2
+commonRow IOChError = R 0x2 4
+commonRow CommonChError = R 0xF 4
+
+abbrev pub serviceRegisters : List ServiceRegister
+serviceRegisters = Highest ∷ Reset ∷ FreeRunTimer ∷ WDTimer ∷ ModuleConfig ∷ WDPreset ∷ WriteEnable ∷ CommonError ∷ []
+
+abbrev pub digitalRegisters : List DigitalRegister
+digitalRegisters = FlagReg ∷ OutTimer ∷ Counter ∷ OutCurrent ∷ OperatingTime ∷ UserBytes ∷ FBTimer ∷ FBPreset ∷ OutPreset ∷ ChConfig ∷ MinCurrent ∷ MaxCurrent ∷ UserReals ∷ Maintenance ∷ ChError ∷ []
+
+abbrev pub commonRegisters : List CommonRegister
+commonRegisters = OutFlags ∷ InFlags ∷ IOChError ∷ CommonChError ∷ []
+
+-- what a SWNo names: a register of the service channel, of a digital channel or of the common one; no register of a channel that there is; or nothing up to $11F
+pub data Place : Type 0 where
+  service : ServiceRegister → Place
+  digital : ℕ → DigitalRegister → Place
+  common : CommonRegister → Place
+  unlisted : Place
+  beyond : Place
+
+-- the register with a number, among those of a channel
+abbrev pub find : {A : Type 0} → (A → Place) → (A → Row) → ℕ → List A → Place
+find place row n [] = unlisted
+find place row n (r ∷ rs) = cond (eqb n (row r .number)) (place r) (find place row n rs)
+
+-- "SWNo = channel times $10 + register"
+abbrev pub channelOf : ℕ → ℕ
+channelOf n = n / 0x10
+
+abbrev pub registerOf : ℕ → ℕ
+registerOf n = n % 0x10
+
+unfoldable pub place : ℕ → Place
+place n =
+    cond (ltb 0x11F n) beyond
+    (cond (eqb (channelOf n) 0) (find service serviceRow (registerOf n) serviceRegisters)
+    (cond (eqb (channelOf n) 17) (find common commonRow (registerOf n) commonRegisters)
+    (find (digital (channelOf n)) digitalRow (registerOf n) digitalRegisters)))
+
+-- the row of a place; there is none for what is not listed
+abbrev pub rowOf : Place → Row
+rowOf (service r) = serviceRow r
+rowOf (digital k r) = digitalRow r
+rowOf (common r) = commonRow r
+rowOf unlisted = R 0 0
+rowOf beyond = R 0 0
+
+abbrev pub access : Place → Access
+access p = rowOf p .access
+
+abbrev pub size : Place → ℕ
+size p = rowOf p .size

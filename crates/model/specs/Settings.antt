@@ -1,0 +1,90 @@
+-- Document 01, "A channel", on settings: Functions, Enablebit, references, InA and InB, Output. Definitions only.
+use mathlib.Core.Bool.{Bool, true, false, not, cond, _&&_, _||_}
+use mathlib.Core.List.{List}
+use Prim.Native.Nat.{ℕ, _-_, _/_, _%_, _^_}
+use lib.Dec.{eqb, leb}
+use lib.ListN.{getD}
+use Rattle.model.specs.declared.Channel.{Channel}
+use Rattle.model.specs.declared.Function.{Function}
+use Rattle.model.specs.declared.Reference.{Reference}
+use Rattle.model.specs.declared.Function.the-variants.{Input, Output, OneShot, DutyCycle, Timer}
+use Rattle.model.specs.declared.Reference.the-variants.{None, Channel as ToChannel}
+use Rattle.model.specs.State.{outFlag}
+
+-- bit k of a number
+abbrev pub bit : ℕ → ℕ → Bool
+bit k n = eqb (n / 2 ^ k % 2) 1
+
+-- "digital channels 1 to 16"
+abbrev pub digital : ℕ → Bool
+digital k = leb 1 k && leb k 16
+
+-- "Functions: 0 input, $10 output, $20 one-shot, $30 duty cycle, $50 timer", and "other settings act as Functions 0"
+unfoldable pub functionOf : ℕ → Function
+functionOf n = cond (eqb n 0x10) Output (cond (eqb n 0x20) OneShot (cond (eqb n 0x30) DutyCycle (cond (eqb n 0x50) Timer Input)))
+
+-- Functions is not 0
+abbrev pub notInput : Function → Bool
+notInput Input = false
+notInput Output = true
+notInput OneShot = true
+notInput DutyCycle = true
+notInput Timer = true
+
+-- neither 0 nor $10: a special function drives the output
+abbrev pub isSpecial : Function → Bool
+isSpecial Input = false
+isSpecial Output = false
+isSpecial OneShot = true
+isSpecial DutyCycle = true
+isSpecial Timer = true
+
+-- "A reference is no channel, or a channel from 1 to 16", and "other settings act as reference 0"
+unfoldable pub referenceOf : ℕ → Reference
+referenceOf n = cond (digital n) (ToChannel n) None
+
+abbrev pub isSet : Reference → Bool
+isSet None = false
+isSet (ToChannel k) = true
+
+abbrev pub functions : Channel → Function
+functions ch = functionOf (ch .config .function)
+
+abbrev pub refA : Channel → Reference
+refA ch = referenceOf (ch .config .a)
+
+abbrev pub refB : Channel → Reference
+refB ch = referenceOf (ch .config .b)
+
+-- "if a reference is set"
+abbrev pub hasReference : Channel → Bool
+hasReference ch = isSet (refA ch) || isSet (refB ch)
+
+-- "Enablebit 0 simulates input, 2 feedback, 5 enables underload, 6 silences overload"
+abbrev pub simulatesInput : Channel → Bool
+simulatesInput ch = bit 0 (ch .config .enable)
+
+abbrev pub simulatesFeedback : Channel → Bool
+simulatesFeedback ch = bit 2 (ch .config .enable)
+
+abbrev pub enablesUnderload : Channel → Bool
+enablesUnderload ch = bit 5 (ch .config .enable)
+
+abbrev pub silencesOverload : Channel → Bool
+silencesOverload ch = bit 6 (ch .config .enable)
+
+-- InFlag of a reference, where `levels` are the InFlags of channels 1 to 16: "0 without a reference"
+abbrev pub levelOf : List Bool → Reference → Bool
+levelOf levels None = false
+levelOf levels (ToChannel k) = getD levels (k - 1) false
+
+-- "InA is InFlag of Ref_A, InB of Ref_B; simulated feedback gives OutFlag and its opposite, reference or not"
+unfoldable pub inA : List Bool → Channel → Bool
+inA levels ch = cond (simulatesFeedback ch) (outFlag ch) (levelOf levels (refA ch))
+
+unfoldable pub inB : List Bool → Channel → Bool
+inB levels ch = cond (simulatesFeedback ch) (not (outFlag ch)) (levelOf levels (refB ch))
+
+-- "Output = OutFlag and Functions not 0"
+unfoldable pub output : Channel → Bool
+output ch = outFlag ch && notInput (functions ch)

@@ -1,0 +1,163 @@
+-- Document 01, "Registers": which bytes each register allows (question 7), and what an accepted write does. Definitions only.
+use mathlib.Core.Bool.{Bool, true, false, cond, _&&_, _||_}
+use mathlib.Core.List.{List, [], _∷_, map}
+use Prim.Native.Nat.{ℕ, suc}
+use lib.Dec.{eqb, leb}
+use lib.ListN.{getD}
+use lib.Ieee.{Float}
+use lib.Ieee.Scale.{finite}
+use Rattle.integers.specs.Bytes.{number, signedNumber}
+use Rattle.counts.specs.declared.TimerCount.{TimerCount}
+use Rattle.counts.specs.declared.OperatingCount.{OperatingCount}
+use Rattle.counts.specs.Counts.{timer, timerUnits, operatingUnits}
+use Rattle.numbers.specs.Reals.{realFrom, countOf, unitsOf}
+use Rattle.numbers.specs.Written.{timerAllowed, presetAllowed, operatingAllowed, limitAllowed}
+use Rattle.model.specs.declared.Config.{Config}
+use Rattle.model.specs.declared.Channel.{Channel}
+use Rattle.model.specs.declared.Shared.{Shared}
+use Rattle.model.specs.declared.ServiceBits.{ServiceBits}
+use Rattle.model.specs.declared.Service.{Service}
+use Rattle.model.specs.declared.Module.{Module}
+use Rattle.model.specs.declared.ServiceRegister.{ServiceRegister}
+use Rattle.model.specs.declared.DigitalRegister.{DigitalRegister}
+use Rattle.model.specs.declared.CommonRegister.{CommonRegister}
+use Rattle.model.specs.declared.ServiceRegister.the-variants.{Highest, Reset, FreeRunTimer, WDTimer, ModuleConfig, WDPreset, WriteEnable, CommonError}
+use Rattle.model.specs.declared.DigitalRegister.the-variants.{FlagReg, OutTimer, Counter, OutCurrent, OperatingTime, UserBytes, FBTimer, FBPreset, OutPreset, ChConfig, MinCurrent, MaxCurrent, UserReals, Maintenance, ChError}
+use Rattle.model.specs.declared.CommonRegister.the-variants.{OutFlags, InFlags, IOChError, ChError as CommonChError}
+use Rattle.model.specs.State.{withCounter, withOperating, withUser, withReals, withService, setOutTimer, setFBTimer, setOutPreset, setFBPreset, setMinCurrent, setMaxCurrent, withChannels, channelAt, putChannel}
+use Rattle.model.specs.Settings.{bit}
+use Rattle.model.specs.Channel.{acknowledged, simulate, takeCurrent, flagRegWritten, outFlagsWritten, chConfigWritten, keepCounter, keepOperating, keepUser}
+use Rattle.model.specs.Errors.{serviceAcknowledged}
+use Rattle.model.specs.Registers.{Place, service, digital, common, unlisted, beyond}
+use Rattle.model.specs.Image.{configFrom, configAllowed, moduleConfigAllowed, entryOf, restored, restoredShared, noServiceBits, externalReset}
+
+-- ---- allowed values
+abbrev pub allZero : List ℕ → Bool
+allZero [] = true
+allZero (b ∷ bs) = eqb b 0 && allZero bs
+
+abbrev pub serviceAllowed : ServiceRegister → List ℕ → Bool
+serviceAllowed Highest bs = true
+serviceAllowed Reset bs = eqb (getD bs 0 0) 0xFF
+serviceAllowed FreeRunTimer bs = true
+serviceAllowed WDTimer bs = presetAllowed (realFrom bs)
+serviceAllowed ModuleConfig bs = moduleConfigAllowed bs
+serviceAllowed WDPreset bs = presetAllowed (realFrom bs)
+serviceAllowed WriteEnable bs = leb (getD bs 0 0) 1
+serviceAllowed CommonError bs = allZero bs
+
+abbrev pub digitalAllowed : DigitalRegister → List ℕ → Bool
+digitalAllowed FlagReg bs = true
+digitalAllowed OutTimer bs = timerAllowed (realFrom bs)
+digitalAllowed Counter bs = true
+digitalAllowed OutCurrent bs = finite (realFrom bs)
+digitalAllowed OperatingTime bs = operatingAllowed (realFrom bs)
+digitalAllowed UserBytes bs = true
+digitalAllowed FBTimer bs = timerAllowed (realFrom bs)
+digitalAllowed FBPreset bs = presetAllowed (realFrom bs)
+digitalAllowed OutPreset bs = presetAllowed (realFrom bs)
+digitalAllowed ChConfig bs = configAllowed bs
+digitalAllowed MinCurrent bs = limitAllowed (realFrom bs)
+digitalAllowed MaxCurrent bs = limitAllowed (realFrom bs)
+digitalAllowed UserReals bs = true
+digitalAllowed Maintenance bs = true
+digitalAllowed ChError bs = true
+
+abbrev pub allowed : Place → List ℕ → Bool
+allowed (service r) bs = serviceAllowed r bs
+allowed (digital k r) bs = digitalAllowed r bs
+allowed (common r) bs = true
+allowed unlisted bs = true
+allowed beyond bs = true
+
+-- ---- the values that allowed bytes give
+abbrev pub timerFrom : List ℕ → TimerCount
+timerFrom bs = timer (countOf timerUnits (realFrom bs))
+
+abbrev pub operatingFrom : List ℕ → OperatingCount
+operatingFrom bs = record { 0 = unitsOf operatingUnits (realFrom bs) }
+
+-- ---- a service register, in three parts: what every channel may learn, the service channel's own errors, and each channel
+abbrev pub setConfig : Config → Shared → Shared
+setConfig g s = record { timer = s .timer; config = g; preset = s .preset; enabled = s .enabled; saving = s .saving }
+
+abbrev pub setPreset : TimerCount → Shared → Shared
+setPreset t s = record { timer = s .timer; config = s .config; preset = t; enabled = s .enabled; saving = s .saving }
+
+abbrev pub setWriteEnable : Bool → Shared → Shared
+setWriteEnable b s = record { timer = s .timer; config = s .config; preset = s .preset; enabled = b; saving = s .saving }
+
+-- "Reset does the same from the kept values"
+unfoldable pub sharedWritten : ServiceRegister → List ℕ → Shared → Shared
+sharedWritten Highest bs s = s
+sharedWritten Reset bs s = restoredShared (s .config) (s .preset)
+sharedWritten FreeRunTimer bs s = s
+sharedWritten WDTimer bs s = s
+sharedWritten ModuleConfig bs s = setConfig (configFrom bs) s
+sharedWritten WDPreset bs s = setPreset (timerFrom bs) s
+sharedWritten WriteEnable bs s = setWriteEnable (eqb (getD bs 0 0) 1) s
+sharedWritten CommonError bs s = s
+
+-- "with His bit 6 instead"
+unfoldable pub errorsWritten : ServiceRegister → Service → Service
+errorsWritten Highest v = v
+errorsWritten Reset v = record { watchdog = v .watchdog; act = noServiceBits; his = externalReset }
+errorsWritten FreeRunTimer v = v
+errorsWritten WDTimer v = v
+errorsWritten ModuleConfig v = v
+errorsWritten WDPreset v = v
+errorsWritten WriteEnable v = v
+errorsWritten CommonError v = serviceAcknowledged v
+
+unfoldable pub everyWritten : ServiceRegister → Channel → Channel
+everyWritten Highest ch = ch
+everyWritten Reset ch = restored (entryOf ch)
+everyWritten FreeRunTimer ch = ch
+everyWritten WDTimer ch = ch
+everyWritten ModuleConfig ch = ch
+everyWritten WDPreset ch = ch
+everyWritten WriteEnable ch = ch
+everyWritten CommonError ch = acknowledged ch
+
+abbrev pub serviceWritten : ServiceRegister → List ℕ → Module → Module
+serviceWritten r bs m = record { shared = sharedWritten r bs (m .shared); service = errorsWritten r (m .service); channels = map (everyWritten r) (m .channels) }
+
+-- ---- a digital register: "A protected write is kept at once, and so is a write of register 2, 4 or 5 while WriteEnable is TRUE"
+abbrev pub keepIf : Bool → (Channel → Channel) → Channel → Channel
+keepIf enabled keep ch = cond enabled (keep ch) ch
+
+unfoldable pub digitalWritten : DigitalRegister → Shared → List ℕ → Channel → Channel
+digitalWritten FlagReg s bs ch = flagRegWritten (getD bs 0 0) ch
+digitalWritten OutTimer s bs ch = setOutTimer (timerFrom bs) ch
+digitalWritten Counter s bs ch = keepIf (s .enabled) keepCounter (withCounter (signedNumber bs) ch)
+digitalWritten OutCurrent s bs ch = takeCurrent s (realFrom bs) ch
+digitalWritten OperatingTime s bs ch = keepIf (s .enabled) keepOperating (withOperating (operatingFrom bs) ch)
+digitalWritten UserBytes s bs ch = keepIf (s .enabled) keepUser (withUser bs ch)
+digitalWritten FBTimer s bs ch = setFBTimer (timerFrom bs) ch
+digitalWritten FBPreset s bs ch = setFBPreset (timerFrom bs) ch
+digitalWritten OutPreset s bs ch = setOutPreset (timerFrom bs) ch
+digitalWritten ChConfig s bs ch = chConfigWritten (configFrom bs) ch
+digitalWritten MinCurrent s bs ch = setMinCurrent (realFrom bs) ch
+digitalWritten MaxCurrent s bs ch = setMaxCurrent (realFrom bs) ch
+digitalWritten UserReals s bs ch = withReals bs ch
+digitalWritten Maintenance s bs ch = withService bs ch
+digitalWritten ChError s bs ch = ch
+
+-- ---- a common register, at the channel of bit i
+unfoldable pub commonWritten : CommonRegister → List ℕ → ℕ → Channel → Channel
+commonWritten OutFlags bs i ch = outFlagsWritten (bit i (number bs)) ch
+commonWritten InFlags bs i ch = simulate (bit i (number bs)) ch
+commonWritten IOChError bs i ch = ch
+commonWritten CommonChError bs i ch = ch
+
+-- each channel with its place, from place i on
+abbrev pub each : (ℕ → Channel → Channel) → ℕ → List Channel → List Channel
+each f i [] = []
+each f i (ch ∷ cs) = f i ch ∷ each f (suc i) cs
+
+unfoldable pub written : Place → List ℕ → Module → Module
+written (service r) bs m = serviceWritten r bs m
+written (digital k r) bs m = putChannel k (digitalWritten r (m .shared) bs (channelAt m k)) m
+written (common r) bs m = withChannels (each (commonWritten r bs) 0 (m .channels)) m
+written unlisted bs m = m
+written beyond bs m = m
