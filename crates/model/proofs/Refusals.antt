@@ -12,11 +12,12 @@ use Rattle.model.specs.declared.Refusal.{Refusal}
 use Rattle.model.specs.declared.Refusal.the-variants.{Beyond, Unlisted, ReadOnly, WrongLength, BufferTooShort, Protected, NotAllowed, NoChannel, NotFinite, ImageLength, ImageCounts, ImageSum, ImageValues, NoRoom}
 use Rattle.model.specs.declared.Reply.{Reply}
 use Rattle.model.specs.declared.Reply.the-variants.{Done, Refused}
-use Rattle.model.specs.Registers.{Place}
-use Rattle.model.specs.Image.{started, zeroSetup}
-use Rattle.model.specs.Questions.{Question, asked, refusalNumber, powerUpReply, storeReply}
-use Rattle.model.specs.Calls.{Request, read, write, level, current, tick, step, readAs, writtenAs, sampledAs, powerUp, stored}
-use Rattle.model.specs.Refusals.{Refusals, refusedAs, AllYes, FirstNo}
+use Rattle.model.specs.Registers.{Place, place}
+use Rattle.model.specs.Image.{configAllowed, started, zeroSetup}
+use Rattle.model.specs.Writes.{sharedWritten, written}
+use Rattle.model.specs.Questions.{Question, asked, refusalNumber, readReply, writeReply, powerUpReply, storeReply}
+use Rattle.model.specs.Calls.{Request, read, write, level, current, tick, step, cleared, preset, readAs, writtenAs, sampledAs, powerUp, stored}
+use Rattle.model.specs.Refusals.{Refusals, refusedAs, AllYes, FirstNo, InOrder}
 
 -- what is done is not refused
 apart : {A : Type 0} (n : ℕ) (r : Refusal) → Done n ≡ Refused r → A
@@ -124,3 +125,18 @@ store m lent r h = rw h
 
 pub refusals : Refusals
 refusals = record { unchanged = unchanged; first = first; only = only; accepted = accepted; distinct = distinct; start = start; store = store }
+
+-- ---- the order of the questions, by computation
+pub in-order : InOrder
+unfolding step place readReply writeReply written sharedWritten cleared preset started configAllowed
+in-order =
+    record {
+        beyond = λ m. refl;
+        unlisted = λ m. refl;
+        read-only = λ m. refl;
+        wrong-length = refl;
+        too-short = λ m. refl;
+        protected = refl;
+        not-allowed = refl;
+        allowed = refl
+    }

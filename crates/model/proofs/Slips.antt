@@ -1,21 +1,21 @@
--- The facts that rule out the slips at the well head: a rule leaves what a slip would change, on both sides of each of its tests. Assumes nothing.
+-- The facts that rule out the slips at the well head. Each rule on the way leaves what the slip would change, His bit 1 or InternalState, on both sides of each of
+-- its tests (`either`); step 6 joins to His. A special function is taken by Control now and as it was seen, which decides its edges. Assumes nothing.
 use mathlib.Core.Path.{_≡_, refl, _∙_, ap, fst-path, snd-path}
 use mathlib.Core.Bool.{Bool, true, false, not, cond, _&&_, _||_, Bool·beq}
 use mathlib.Core.List.{List}
 use Prim.Native.Nat.{ℕ, _+_, _<_}
 use native.Mathlib.Omega.{arith}
 use lib.Ieee.{Float}
-use Rattle.counts.specs.declared.TimerCount.{TimerCount}
 use Rattle.counts.specs.declared.OperatingCount.{OperatingCount}
 use Rattle.counts.specs.Counts.{operatingStep, isPositive}
 use Rattle.model.specs.declared.Function.{Function}
 use Rattle.model.specs.declared.Function.the-variants.{Input, Output, OneShot, DutyCycle, Timer}
 use Rattle.model.specs.declared.Channel.{Channel}
 use Rattle.model.specs.declared.Shared.{Shared}
-use Rattle.model.specs.State.{outFlag, inFlag, control, internalState, outTimer, setOutFlag, setOutCurrent}
+use Rattle.model.specs.State.{outFlag, inFlag, control, internalState, setControl, setInternalState, outTimer, outPreset, setOutCurrent}
 use Rattle.model.specs.Settings.{bit, functions, notInput, isSpecial, simulatesInput, silencesOverload}
 use Rattle.model.specs.Channel.{changed, aboveTrip, tripped, takeCurrent, inputBecomes, simulate, takeOut, takeControl, clearActs, flagRegWritten}
-use Rattle.model.specs.Tick.{shutDown, timersRun, rose, fell, reload, dropped, seen, timed, turned, oneShot, dutyCycle, timerOutput, special, overloaded, guarded, driven, lookDue, looked, found, judged, saved, watched}
+use Rattle.model.specs.Tick.{shutDown, timersRun, oneShot, dutyCycle, timerOutput, special, overloaded, guarded, driven, lookDue, looked, found, judged, saved, watched}
 use Rattle.model.specs.Slips.{RuledOut}
 
 -- what both sides of a test show, its outcome shows
@@ -42,33 +42,27 @@ tripped-leaves ch = either remembered (silencesOverload ch) refl refl
 trip-leaves : (was : Bool) (ch : Channel) → remembered (changed was (tripped ch)) ≡ remembered ch
 trip-leaves was ch = changed-leaves was (tripped ch) ∙ tripped-leaves ch
 
--- ---- the steps of a special function that reload nothing leave His bit 1 and OutTimer
-abbrev running : Channel → Bool × TimerCount
-running ch = (feedbackHis ch, outTimer ch)
-
-dropped-leaves : (ch : Channel) → running (dropped ch) ≡ running ch
-dropped-leaves ch = either running (fell ch) refl refl
-
-timed-leaves : (ch : Channel) → running (timed ch) ≡ running ch
-timed-leaves ch = either running (control ch) refl refl
-
--- the one-shot after its reload, and the timer
-shown-leaves : (ch : Channel) → running (timed (seen (dropped ch))) ≡ running ch
-shown-leaves ch = timed-leaves (seen (dropped ch)) ∙ dropped-leaves ch
-
 -- ---- a tick leaves His bit 1 where it is set
-turned-leaves : (ch : Channel) → feedbackHis (turned ch) ≡ feedbackHis ch
-turned-leaves ch = either feedbackHis (control ch && not (isPositive (outTimer ch))) refl refl
+-- a special function, by Control now and as it was seen: its other test is on OutTimer
+special-by : (f : Function) (now was : Bool) (ch : Channel) → feedbackHis (special f (setInternalState was (setControl now ch))) ≡ feedbackHis ch
+unfolding oneShot dutyCycle timerOutput
+special-by Input now was ch = refl
+special-by Output now was ch = refl
+special-by OneShot true true ch = refl
+special-by OneShot true false ch = refl
+special-by OneShot false true ch = refl
+special-by OneShot false false ch = refl
+special-by DutyCycle true true ch = either feedbackHis (not (isPositive (outTimer ch))) refl refl
+special-by DutyCycle true false ch = either feedbackHis (not (isPositive (outPreset ch))) refl refl
+special-by DutyCycle false true ch = refl
+special-by DutyCycle false false ch = refl
+special-by Timer true true ch = refl
+special-by Timer true false ch = refl
+special-by Timer false true ch = refl
+special-by Timer false false ch = refl
 
 special-leaves : (f : Function) (ch : Channel) → feedbackHis (special f ch) ≡ feedbackHis ch
-unfolding oneShot dutyCycle timerOutput
-special-leaves Input ch = refl
-special-leaves Output ch = refl
-special-leaves OneShot ch = fst-path (shown-leaves (cond (rose ch) (reload ch) ch)) ∙ either feedbackHis (rose ch) refl refl
-special-leaves DutyCycle ch =
-    let begun : Channel = cond (rose ch) (setOutFlag true (reload ch)) ch in
-    turned-leaves (seen (dropped begun)) ∙ fst-path (dropped-leaves begun) ∙ either feedbackHis (rose ch) refl refl
-special-leaves Timer ch = fst-path (shown-leaves ch)
+special-leaves f ch = special-by f (control ch) (internalState ch) ch
 
 shutDown-leaves : (out : Bool) (ch : Channel) → feedbackHis (shutDown out ch) ≡ feedbackHis ch
 unfolding shutDown
@@ -114,6 +108,10 @@ operating : (n : OperatingCount) → n .0 < 4294967295 → operatingStep n .0 �
 unfolding operatingStep
 operating n h = omega arith
 
+at-the-end : (n : OperatingCount) → n .0 ≡ 4294967295 → operatingStep n .0 ≡ 4294967295
+unfolding operatingStep
+at-the-end n h = omega arith
+
 -- ---- InternalState, and the one-shot that saw no edge
 overload : (s : Shared) (x : Float) (ch : Channel) → internalState (takeCurrent s x ch) ≡ internalState ch
 unfolding takeCurrent
@@ -143,10 +141,32 @@ rewritten b ch =
     simulate-leaves (bit 6 b) (changed (outFlag ch) new) ∙ snd-path (changed-leaves (outFlag ch) new) ∙ takeControl-leaves (bit 3 b) out
     ∙ takeOut-leaves (bit 7 b) (clearActs ch)
 
-one-shot : (ch : Channel) → internalState ch ≡ true → outTimer (oneShot ch) ≡ outTimer ch
+-- a one-shot that saw Control set
+seen-set : (now : Bool) (ch : Channel) → outTimer (oneShot (setInternalState true (setControl now ch))) ≡ outTimer ch
 unfolding oneShot
-one-shot ch h =
-    snd-path (shown-leaves (cond (rose ch) (reload ch) ch)) ∙ ap (λ (b : Bool). outTimer (cond (not b && control ch) (reload ch) ch)) h
+seen-set true ch = refl
+seen-set false ch = refl
+
+one-shot : (ch : Channel) → internalState ch ≡ true → outTimer (oneShot ch) ≡ outTimer ch
+one-shot ch h = ap (λ (b : Bool). outTimer (oneShot (setInternalState b ch))) h ∙ seen-set (control ch) ch
+
+overload-in-a-tick : (s : Shared) (ch : Channel) → internalState (guarded s ch) ≡ internalState ch
+unfolding guarded
+overload-in-a-tick s ch = either internalState (overloaded s ch) (snd-path (trip-leaves (outFlag ch) ch)) refl
+
+shut-down : (out : Bool) (ch : Channel) → internalState (shutDown out ch) ≡ internalState ch
+unfolding shutDown
+shut-down out ch = either internalState out refl refl
 
 pub ruled-out : RuledOut
-ruled-out = record { history = history; operating = operating; overload = overload; rewritten = rewritten; one-shot = one-shot }
+ruled-out =
+    record {
+        history = history;
+        operating = operating;
+        at-the-end = at-the-end;
+        overload = overload;
+        overload-in-a-tick = overload-in-a-tick;
+        shut-down = shut-down;
+        rewritten = rewritten;
+        one-shot = one-shot
+    }

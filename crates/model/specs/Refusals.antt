@@ -10,7 +10,7 @@ use Rattle.model.specs.declared.Reply.{Reply}
 use Rattle.model.specs.declared.Reply.the-variants.{Done, Refused}
 use Rattle.model.specs.Errors.{dataError, generalError}
 use Rattle.model.specs.Image.{started, zeroSetup}
-use Rattle.model.specs.Questions.{Question, asked, refusalNumber, powerUpReply, storeReply}
+use Rattle.model.specs.Questions.{Question, asked, refusalNumber, numberOf, powerUpReply, storeReply}
 use Rattle.model.specs.Calls.{Request, read, write, level, current, tick, Answer, Stepped, step, wireAnswer, plainAnswer, cleared, preset, powerUp, stored}
 
 -- what a refused call leaves and answers: a wire call only its clearing and its preset, with the bits as they stand after the clearing; a sample nothing
@@ -48,3 +48,24 @@ pub record Refusals : Type 0 where
   -- a refused power-up gives the box of all-zero settings, and a refused storing leaves the buffer
   pub start : (img : List ℕ) (r : Refusal) → powerUpReply img ≡ Refused r → powerUp img ≡ started zeroSetup
   pub store : (m : Module) (lent : List ℕ) (r : Refusal) → storeReply lent ≡ Refused r → stored m lent ≡ lent
+
+-- the number of a write to, and of a read from, a box; and a box just powered up, on which WriteEnable is FALSE
+abbrev pub writes : Module → ℕ → List ℕ → ℕ
+writes m n bs = numberOf (step m (write n bs) .answer .reply)
+
+abbrev pub reads : Module → ℕ → List ℕ → ℕ
+reads m n lent = numberOf (step m (read n lent) .answer .reply)
+
+abbrev pub enabled : Module → Module
+enabled m = step m (write 0x0D (1 ∷ [])) .box
+
+-- where two questions are answered no, the earlier one's number is given
+pub record InOrder : Type 0 where
+  pub beyond : (m : Module) → writes m 0x120 [] ≡ 1
+  pub unlisted : (m : Module) → writes m 0x1E [] ≡ 2
+  pub read-only : (m : Module) → writes m 0x1F [] ≡ 3
+  pub wrong-length : writes (started zeroSetup) 0x19 [] ≡ 4
+  pub too-short : (m : Module) → reads m 0x1F (0 ∷ 0 ∷ 0 ∷ []) ≡ 5
+  pub protected : writes (started zeroSetup) 0x19 (0 ∷ 0x77 ∷ 0 ∷ 0 ∷ []) ≡ 6
+  pub not-allowed : writes (enabled (started zeroSetup)) 0x19 (0 ∷ 0x77 ∷ 0 ∷ 0 ∷ []) ≡ 7
+  pub allowed : writes (enabled (started zeroSetup)) 0x19 (0 ∷ 0x50 ∷ 16 ∷ 16 ∷ []) ≡ 0
