@@ -11,16 +11,18 @@ pub mod Writes
 pub mod Boxes
 pub mod Steps
 use mathlib.Core.Path.{_≡_, refl, ap, ap₂, _∙_}
-use mathlib.Core.List.{List, [], _∷_, map}
+use mathlib.Core.List.{List, [], _∷_, _++_, map}
 use Prim.Native.Nat.{ℕ}
 use lib.Dec.{T}
+use lib.ListN.{drop}
 use lib.Pow.{areBytes}
 use Rattle.model.specs.declared.Reply.the-variants.{Done}
 use Rattle.model.specs.Image.{Entry, Setup, entryOf, setupOf, encode, decode, restored, started}
-use Rattle.model.specs.Questions.{powerUpReply}
+use Rattle.model.specs.Questions.{powerUpReply, storeReply}
+use Rattle.model.specs.Calls as Calls
 use Rattle.model.specs.Calls.{Request, run, powerUp}
 use Rattle.model.specs.Images.{Typed, Images}
-use Rattle.model.proofs.Images.Whole.{SetupHeld, encode-again, decode-back, encode-accepted}
+use Rattle.model.proofs.Images.Whole.{SetupHeld, encode-long, encode-again, decode-back, encode-accepted}
 use Rattle.model.proofs.Images.Boxes.{setup-held, power-up-valid}
 use Rattle.model.proofs.Images.Steps.{run-valid}
 
@@ -58,5 +60,12 @@ stored img t xs y = encode-accepted (setupOf (run (powerUp img) xs)) (reached im
 back : (img : List ℕ) → T (areBytes img) → (xs : List Request) → Typed xs → setupOf (powerUp (encode (setupOf (run (powerUp img) xs)))) ≡ setupOf (run (powerUp img) xs)
 back img t xs y = let s = setupOf (run (powerUp img) xs) in accepted-setup (encode s) (stored img t xs y) ∙ decode-back s (reached img t xs y)
 
+written : (img : List ℕ) → T (areBytes img) → (xs : List Request) → Typed xs → (lent : List ℕ) → storeReply lent ≡ Done 717
+    → Calls.stored (run (powerUp img) xs) lent ≡ encode (setupOf (run (powerUp img) xs)) ++ drop 717 lent
+unfolding Calls.stored
+written img t xs y lent e =
+    let s = setupOf (run (powerUp img) xs) in
+    rw e (ap (λ (k : ℕ). encode s ++ drop k lent) (encode-long s (reached img t xs y)))
+
 pub images : Images
-images = record { again = again; stored = stored; back = back }
+images = record { again = again; stored = stored; back = back; written = written }

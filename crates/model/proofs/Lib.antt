@@ -6,3 +6,4 @@ pub mod Images
 pub mod Refusals
 pub mod Table
 pub mod Slips
+pub mod Facts

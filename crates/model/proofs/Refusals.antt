@@ -9,7 +9,7 @@ use lib.ListN.{getD}
 use Rattle.model.specs.declared.Channel.{Channel}
 use Rattle.model.specs.declared.Module.{Module}
 use Rattle.model.specs.declared.Refusal.{Refusal}
-use Rattle.model.specs.declared.Refusal.the-variants.{Beyond, Unlisted, ReadOnly, WrongLength, BufferTooShort, Protected, NotAllowed, NoChannel, NotFinite, ImageLength, ImageCounts, ImageSum, ImageValues, NoRoom}
+use Rattle.model.specs.declared.Refusal.the-variants.{Beyond, Unlisted, NotWritable, WrongLength, BufferTooShort, NotEnabled, NotAllowed, NoChannel, NotFinite, ImageLength, ImageCounts, ImageSum, ImageValues, NoRoom}
 use Rattle.model.specs.declared.Reply.{Reply}
 use Rattle.model.specs.declared.Reply.the-variants.{Done, Refused}
 use Rattle.model.specs.Registers.{Place, place}
@@ -86,7 +86,7 @@ only qs n r f = rw (f .order, passed (f .before) (f .question ∷ f .after) (Don
 -- ---- numbers: the refusals in the order of theirs
 inOrder : List Refusal
 inOrder =
-    Beyond ∷ Unlisted ∷ ReadOnly ∷ WrongLength ∷ BufferTooShort ∷ Protected ∷ NotAllowed ∷ NoChannel ∷ NotFinite ∷ ImageLength ∷ ImageCounts ∷ ImageSum ∷ ImageValues
+    Beyond ∷ Unlisted ∷ NotWritable ∷ WrongLength ∷ BufferTooShort ∷ NotEnabled ∷ NotAllowed ∷ NoChannel ∷ NotFinite ∷ ImageLength ∷ ImageCounts ∷ ImageSum ∷ ImageValues
     ∷ NoRoom ∷ []
 
 numbered : ℕ → Refusal
@@ -98,10 +98,10 @@ back : (r : Refusal) → numbered (refusalNumber r) ≡ r
 unfolding numbered
 back Beyond = refl
 back Unlisted = refl
-back ReadOnly = refl
+back NotWritable = refl
 back WrongLength = refl
 back BufferTooShort = refl
-back Protected = refl
+back NotEnabled = refl
 back NotAllowed = refl
 back NoChannel = refl
 back NotFinite = refl
@@ -131,12 +131,12 @@ pub in-order : InOrder
 unfolding step place readReply writeReply written sharedWritten cleared preset started configAllowed
 in-order =
     record {
-        beyond = λ m. refl;
-        unlisted = λ m. refl;
-        read-only = λ m. refl;
-        wrong-length = refl;
-        too-short = λ m. refl;
-        protected = refl;
-        not-allowed = refl;
-        allowed = refl
+      beyond = λ m. refl;
+      unlisted = λ m. refl;
+      read-only = λ m. refl;
+      wrong-length = refl;
+      too-short = λ m. refl;
+      protected = refl;
+      not-allowed = refl;
+      allowed = refl;
     }

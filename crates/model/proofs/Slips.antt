@@ -15,7 +15,7 @@ use Rattle.model.specs.declared.Shared.{Shared}
 use Rattle.model.specs.State.{outFlag, inFlag, control, internalState, setControl, setInternalState, outTimer, outPreset, setOutCurrent}
 use Rattle.model.specs.Settings.{bit, functions, notInput, isSpecial, simulatesInput, silencesOverload}
 use Rattle.model.specs.Channel.{changed, aboveTrip, tripped, takeCurrent, inputBecomes, simulate, takeOut, takeControl, clearActs, flagRegWritten}
-use Rattle.model.specs.Tick.{shutDown, timersRun, oneShot, dutyCycle, timerOutput, special, overloaded, guarded, driven, lookDue, looked, found, judged, saved, watched}
+use Rattle.model.specs.Tick.{shutDown, timersRun, oneShot, dutyCycle, timerOutput, special, overloaded, guarded, driven, lookDue, looked, found, judged, saved, reviewed}
 use Rattle.model.specs.Slips.{RuledOut}
 
 -- what both sides of a test show, its outcome shows
@@ -97,8 +97,8 @@ saved-leaves : (due : Bool) (ch : Channel) → feedbackHis (saved due ch) ≡ fe
 unfolding saved
 saved-leaves due ch = either feedbackHis due refl refl
 
-history : (s s′ : Shared) (out due : Bool) (levels : List Bool) (ch : Channel) → feedbackHis ch ≡ true → feedbackHis (watched s due levels (driven s′ out ch)) ≡ true
-unfolding watched
+history : (s s′ : Shared) (out due : Bool) (levels : List Bool) (ch : Channel) → feedbackHis ch ≡ true → feedbackHis (reviewed s due levels (driven s′ out ch)) ≡ true
+unfolding reviewed
 history s s′ out due levels ch h =
     let run : Channel = driven s′ out ch in
     saved-leaves due (judged s (looked s levels run)) ∙ judged-keeps s (looked s levels run) (looked-leaves s levels run ∙ driven-leaves s′ out ch ∙ h)
@@ -161,12 +161,12 @@ shut-down out ch = either internalState out refl refl
 pub ruled-out : RuledOut
 ruled-out =
     record {
-        history = history;
-        operating = operating;
-        at-the-end = at-the-end;
-        overload = overload;
-        overload-in-a-tick = overload-in-a-tick;
-        shut-down = shut-down;
-        rewritten = rewritten;
-        one-shot = one-shot
+      history = history;
+      operating = operating;
+      at-the-end = at-the-end;
+      overload = overload;
+      overload-in-a-tick = overload-in-a-tick;
+      shut-down = shut-down;
+      rewritten = rewritten;
+      one-shot = one-shot;
     }

@@ -11,7 +11,7 @@ use Rattle.numbers.proofs.Table as Numbers
 use Rattle.model.specs.Settings.{functionOf, output}
 use Rattle.model.specs.Channel.{changed, simulate, takeOut, takeControl, clearActs, flagRegWritten}
 use Rattle.model.specs.Registers.{place}
-use Rattle.model.specs.Tick.{saveDue, tickShared, runsOut, tickService, shutDown, timersRun, oneShot, dutyCycle, overloaded, guarded, driven, lookDue, looked, judged, saved, watched, ticked}
+use Rattle.model.specs.Tick.{saveDue, tickShared, runsOut, tickService, shutDown, timersRun, oneShot, dutyCycle, overloaded, guarded, driven, lookDue, looked, judged, saved, reviewed, ticked}
 use Rattle.model.specs.Image.{restored, started}
 use Rattle.model.specs.Writes.{digitalWritten, written}
 use Rattle.model.specs.Questions.{writeReply}
@@ -19,7 +19,7 @@ use Rattle.model.specs.Calls.{cleared, preset, step, run}
 use Rattle.model.specs.Table.{Rows}
 
 pub rows : Rows
-unfolding ofBits ofInt le wrapped larger signedNumber freeRunTick watchdogTick outTimerTick feedbackTick isNegative isPositive realFrom whole countOf from below functionOf output changed simulate takeOut takeControl clearActs flagRegWritten place saveDue tickShared runsOut tickService shutDown timersRun oneShot dutyCycle overloaded guarded driven lookDue looked judged saved watched ticked restored started digitalWritten written writeReply cleared preset step run
+unfolding ofBits ofInt le wrapped larger signedNumber freeRunTick watchdogTick outTimerTick feedbackTick isNegative isPositive realFrom whole countOf from below functionOf output changed simulate takeOut takeControl clearActs flagRegWritten place saveDue tickShared runsOut tickService shutDown timersRun oneShot dutyCycle overloaded guarded driven lookDue looked judged saved reviewed ticked restored started digitalWritten written writeReply cleared preset step run
 rows =
     record {
       rows1to7 = Numbers.rows;

@@ -27,7 +27,7 @@ use Rattle.model.specs.Image as Image
 use Rattle.model.specs.Image.{Entry, entryOf}
 use Rattle.model.specs.Questions as Questions
 use Rattle.model.specs.Calls.{Request, read, write, level, current, tick, Answer, Stepped, step, run, cleared, preset, readAs, writtenAs, sampledAs, powerUp, startedAs}
-use Rattle.model.specs.TwoLists.{ownerOf, isFor, names, accepted, namesBy, named, allNamed, stranger, struck, isWire, marks, Compared, compared, own, SameEnd, Same, LearnsNothing, TwoLists}
+use Rattle.model.specs.TwoLists.{ownerOf, isFor, names, accepted, namesBy, named, allNamed, stranger, struck, marks, Compared, compared, own, SameEnd, Same, LearnsNothing, TwoLists}
 use Rattle.model.proofs.Laws.Inputs.{Inputs, inputs, taken, sensed, in-level, in-current}
 use Rattle.model.proofs.Laws.Alike.{Within, within-append, within-self, stranger-facts, Held, Near, Channels, Alike, held-taken, written-alike, read-alike, put-alike, value-alike, tick-alike, put-stranger, written-stranger, read-stranger}
 
@@ -37,6 +37,14 @@ NotTick (write n bs) = Unit {0}
 NotTick (level k b) = Unit {0}
 NotTick (current k x) = Unit {0}
 NotTick tick = ⊥
+
+-- a wire call: after it WDTimer is WDPreset
+abbrev isWire : Request → Bool
+isWire (read n lent) = true
+isWire (write n bs) = true
+isWire (level k b) = false
+isWire (current k x) = false
+isWire tick = false
 
 -- ---- the second run
 -- the answers of c's own calls, and the box at the end

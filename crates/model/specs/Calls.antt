@@ -41,7 +41,7 @@ pub record Stepped : Type 0 where
   pub answer : Answer
   pub box : Module
 
--- "the two bits are taken" of m
+-- the two bits are taken of m
 abbrev pub wireAnswer : Reply → List ℕ → Module → Answer
 wireAnswer r buf m = record { reply = r; buffer = buf; data-error = dataError m; general-error = generalError m }
 
@@ -87,7 +87,7 @@ step m (level k b) = sampledAs (levelReply k) k (takeLevel b (channelAt m k)) m
 step m (current k x) = sampledAs (currentReply k x) k (takeCurrent (m .shared) x (channelAt m k)) m
 step m tick = record { answer = plainAnswer (Done 0); box = ticked m }
 
--- "Each call gets the box that the last one left"
+-- the demands: "Each call gets the box that the last one left"
 unfoldable pub run : Module → List Request → Module
 run m [] = m
 run m (x ∷ xs) = run (step m x .box) xs

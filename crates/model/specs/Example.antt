@@ -16,12 +16,12 @@ use Rattle.model.specs.declared.Reply.{Reply}
 use Rattle.model.specs.declared.Reply.the-variants.{Done, Refused}
 use Rattle.model.specs.State.{channelAt, inFlag}
 use Rattle.model.specs.Settings.{output}
-use Rattle.model.specs.Image.{Entry, Setup, entryFrom, encode}
+use Rattle.model.specs.Image.{Entry, Setup, entrySize, entryFrom, encode}
 use Rattle.model.specs.Questions.{numberOf, powerUpReply}
 use Rattle.model.specs.Calls.{Request, read, write, level, current, tick, step, run, powerUp}
 use Rattle.model.specs.TwoLists.{allNamed, struck, marks, own, Compared}
 
--- settings of a channel: an output with this Ref_A, all else zero
+-- settings of a channel: an output with this Ref_A and a MaxCurrent of 1, all else zero
 abbrev pub outputWith : ℕ → Entry
 outputWith a =
     record {
@@ -31,7 +31,7 @@ outputWith a =
       min = ofInt binary32 (pos 0);
       max = ofInt binary32 (pos 1);
       reals = replicate 8 0;
-      service = replicate 4 0;
+      maintenance = replicate 4 0;
       user = replicate 4 0;
       counter = pos 0;
       operating = record { 0 = 0 };
@@ -43,7 +43,7 @@ setup =
     record {
       config = record { enable = 0; function = 0; a = 0; b = 0 };
       preset = timer (pos 256);
-      entries = outputWith 2 ∷ entryFrom (replicate 44 0) ∷ outputWith 0 ∷ replicate 13 (entryFrom (replicate 44 0));
+      entries = outputWith 2 ∷ entryFrom (replicate entrySize 0) ∷ outputWith 0 ∷ replicate 13 (entryFrom (replicate entrySize 0));
     }
 
 unfoldable pub image : List ℕ
@@ -57,19 +57,19 @@ opening = write 0x0D (1 ∷ []) ∷ write 0x10 (0x80 ∷ []) ∷ level 2 true �
 abbrev pub middle : List Request
 middle = write 0x19 (0 ∷ 0x10 ∷ 2 ∷ 4 ∷ []) ∷ write 0x10 (0x80 ∷ []) ∷ read 0x10 (0xA5 ∷ 0xA5 ∷ []) ∷ []
 
--- calls for channel 3: accepted ones, and one whose buffer is too short
-abbrev pub accepted : List Request
-accepted = write 0x30 (0x80 ∷ []) ∷ level 3 true ∷ read 0x3F [] ∷ []
+-- calls for channel 3: two that are accepted, and a read whose buffer is too short
+abbrev pub strangersFirst : List Request
+strangersFirst = write 0x30 (0x80 ∷ []) ∷ level 3 true ∷ read 0x3F [] ∷ []
 
--- other calls for it: a write of two bytes where one is due, and a current
-abbrev pub refused : List Request
-refused = write 0x30 (0 ∷ 0 ∷ []) ∷ current 3 (ofInt binary32 (pos 1)) ∷ []
+-- other calls for it: a write of two bytes where one is due, and a current that is taken
+abbrev pub strangersSecond : List Request
+strangersSecond = write 0x30 (0 ∷ 0 ∷ []) ∷ current 3 (ofInt binary32 (pos 1)) ∷ []
 
 unfoldable pub first : List Request
-first = opening ++ (tick ∷ (accepted ++ (middle ++ (tick ∷ tick ∷ []))))
+first = opening ++ (tick ∷ (strangersFirst ++ (middle ++ (tick ∷ tick ∷ []))))
 
 unfoldable pub second : List Request
-second = opening ++ (tick ∷ (middle ++ (refused ++ (tick ∷ level 3 false ∷ tick ∷ []))))
+second = opening ++ (tick ∷ (middle ++ (strangersSecond ++ (tick ∷ level 3 false ∷ tick ∷ []))))
 
 abbrev pub start : Module
 start = powerUp image

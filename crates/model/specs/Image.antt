@@ -1,4 +1,4 @@
--- Document 01, "Setup image and reset": the kept values, the image's bytes, power-up, reset and storing. Definitions only.
+-- Document 01, "Setup image and reset": the kept values, the image's bytes, and what power-up makes of them; a reset is in Writes, storing in Calls. Definitions only.
 use mathlib.Core.Bool.{Bool, true, false, cond, _&&_, _||_}
 use mathlib.Core.List.{List, [], _∷_, _++_, map}
 use Prim.Native.Nat.{ℕ, zero, suc, _+_, _*_, _%_}
@@ -30,7 +30,7 @@ pub record Entry : Type 0 where
   pub min : Float
   pub max : Float
   pub reals : List ℕ
-  pub service : List ℕ
+  pub maintenance : List ℕ
   pub user : List ℕ
   pub counter : ℤ
   pub operating : OperatingCount
@@ -49,7 +49,7 @@ entryOf ch =
       min = ch .currents .min;
       max = ch .currents .max;
       reals = ch .reals;
-      service = ch .service;
+      maintenance = ch .maintenance;
       user = ch .kept .user;
       counter = ch .kept .counter;
       operating = ch .kept .operating;
@@ -62,7 +62,7 @@ setupOf m = record { config = m .shared .config; preset = m .shared .preset; ent
 unfoldable pub entryBytes : Entry → List ℕ
 entryBytes e =
     configBytes (e .config) ++ (signedBytes 4 (e .feedback .0) ++ (signedBytes 4 (e .out .0) ++ (realBytes (e .min) ++ (realBytes (e .max)
-    ++ (e .reals ++ (e .service ++ (e .user ++ (signedBytes 4 (e .counter) ++ bytesOf 4 (e .operating .0)))))))))
+    ++ (e .reals ++ (e .maintenance ++ (e .user ++ (signedBytes 4 (e .counter) ++ bytesOf 4 (e .operating .0)))))))))
 
 unfoldable pub entriesBytes : List Entry → List ℕ
 entriesBytes [] = []
@@ -119,7 +119,7 @@ entryFrom l =
       min = realFrom (part 12 4 l);
       max = realFrom (part 16 4 l);
       reals = part 20 8 l;
-      service = part 28 4 l;
+      maintenance = part 28 4 l;
       user = part 32 4 l;
       counter = signedNumber (part 36 4 l);
       operating = record { 0 = number (part 40 4 l) };
@@ -147,7 +147,7 @@ countsRight img = eqb (getD img 0 0) 1 && (eqb (getD img secondCount 0) 16 && eq
 unfoldable pub sumRight : List ℕ → Bool
 sumRight img = eqb (number (drop sumPlace img)) (total (take sumPlace img) % 65536)
 
--- "Functions" of a channel and of the box, and the references
+-- which settings are allowed, here and in a write (question 7)
 abbrev pub functionAllowed : ℕ → Bool
 functionAllowed n = eqb n 0 || (eqb n 0x10 || (eqb n 0x20 || (eqb n 0x30 || eqb n 0x50)))
 
@@ -194,7 +194,7 @@ restored e =
       operating = e .operating;
       user = e .user;
       reals = e .reals;
-      service = e .service;
+      maintenance = e .maintenance;
       kept = record { counter = e .counter; operating = e .operating; user = e .user };
     }
 

@@ -1,4 +1,4 @@
--- Document 01 as definitions: a file a section, in its order; then the claims about them.
+-- Document 01 as definitions, each file above those that it rests on; then the claims about them.
 pub mod State
 pub mod Settings
 pub mod Channel
@@ -16,3 +16,4 @@ pub mod Images
 pub mod Refusals
 pub mod Table
 pub mod Slips
+pub mod Facts

@@ -11,7 +11,7 @@ use Rattle.model.specs.declared.Shared.{Shared}
 use Rattle.model.specs.declared.Refusal.{Refusal}
 use Rattle.model.specs.declared.Reply.{Reply}
 use Rattle.model.specs.declared.Access.the-variants.{ReadOnly, Writable, Protected}
-use Rattle.model.specs.declared.Refusal.the-variants.{Beyond, Unlisted, ReadOnly as NotWritable, WrongLength, BufferTooShort, Protected as NotEnabled, NotAllowed, NoChannel, NotFinite, ImageLength, ImageCounts, ImageSum, ImageValues, NoRoom}
+use Rattle.model.specs.declared.Refusal.the-variants.{Beyond, Unlisted, NotWritable, WrongLength, BufferTooShort, NotEnabled, NotAllowed, NoChannel, NotFinite, ImageLength, ImageCounts, ImageSum, ImageValues, NoRoom}
 use Rattle.model.specs.declared.Reply.the-variants.{Done, Refused}
 use Rattle.model.specs.Settings as Settings
 use Rattle.model.specs.Registers.{Place, service, digital, common, unlisted, beyond, access, size}

@@ -61,7 +61,7 @@ digitalBytes ChConfig levels ch = configBytes (ch .config)
 digitalBytes MinCurrent levels ch = realBytes (ch .currents .min)
 digitalBytes MaxCurrent levels ch = realBytes (ch .currents .max)
 digitalBytes UserReals levels ch = ch .reals
-digitalBytes Maintenance levels ch = ch .service
+digitalBytes Maintenance levels ch = ch .maintenance
 digitalBytes ChError levels ch = chError (errorByte (ch .errors .his)) (errorByte (ch .errors .act))
 
 unfoldable pub commonBytes : CommonRegister → List Channel → List ℕ

@@ -69,7 +69,7 @@ digitalRegisters = FlagReg ∷ OutTimer ∷ Counter ∷ OutCurrent ∷ Operating
 abbrev pub commonRegisters : List CommonRegister
 commonRegisters = OutFlags ∷ InFlags ∷ IOChError ∷ CommonChError ∷ []
 
--- what a SWNo names: a register of the service channel, of a digital channel or of the common one; no register of a channel that there is; or nothing up to $11F
+-- what a SWNo names: a register of the service channel, of a digital channel or of the common one; a number that the channel does not list; or a SWNo above $11F
 pub data Place : Type 0 where
   service : ServiceRegister → Place
   digital : ℕ → DigitalRegister → Place
@@ -96,7 +96,7 @@ place n =
     (cond (eqb (channelOf n) 17) (find common commonRow (registerOf n) commonRegisters)
     (find (digital (channelOf n)) digitalRow (registerOf n) digitalRegisters)))
 
--- the row of a place; there is none for what is not listed
+-- the row of a place. What is not listed has none: R 0 0 stands there, and no question but 1 and 2 is asked of it
 abbrev pub rowOf : Place → Row
 rowOf (service r) = serviceRow r
 rowOf (digital k r) = digitalRow r

@@ -19,7 +19,7 @@ bit k n = eqb (n / 2 ^ k % 2) 1
 abbrev pub digital : ℕ → Bool
 digital k = leb 1 k && leb k 16
 
--- "Functions: 0 input, $10 output, $20 one-shot, $30 duty cycle, $50 timer", and "other settings act as Functions 0"
+-- "Functions: 0 input, $10 output, $20 one-shot, $30 duty cycle, $50 timer", and "a box value with other settings acts as Functions 0, reference 0"
 unfoldable pub functionOf : ℕ → Function
 functionOf n = cond (eqb n 0x10) Output (cond (eqb n 0x20) OneShot (cond (eqb n 0x30) DutyCycle (cond (eqb n 0x50) Timer Input)))
 
@@ -39,7 +39,7 @@ isSpecial OneShot = true
 isSpecial DutyCycle = true
 isSpecial Timer = true
 
--- "A reference is no channel, or a channel from 1 to 16", and "other settings act as reference 0"
+-- "A reference is no channel, or a channel from 1 to 16"
 unfoldable pub referenceOf : ℕ → Reference
 referenceOf n = cond (digital n) (ToChannel n) None
 

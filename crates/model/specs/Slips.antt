@@ -10,12 +10,12 @@ use Rattle.model.specs.declared.Channel.{Channel}
 use Rattle.model.specs.declared.Shared.{Shared}
 use Rattle.model.specs.State.{internalState, outTimer}
 use Rattle.model.specs.Channel.{takeCurrent, flagRegWritten}
-use Rattle.model.specs.Tick.{shutDown, guarded, driven, watched, oneShot}
+use Rattle.model.specs.Tick.{shutDown, guarded, driven, reviewed, oneShot}
 
 pub record RuledOut : Type 0 where
   -- "Letting the feedback rule clear His": a tick leaves a His bit 1 that is set
   pub history : (s s′ : Shared) (out due : Bool) (levels : List Bool) (ch : Channel) → ch .errors .his .feedback ≡ true →
-      watched s due levels (driven s′ out ch) .errors .his .feedback ≡ true
+      reviewed s due levels (driven s′ out ch) .errors .his .feedback ≡ true
   -- "Adding 0.125 to a 32-bit Real, which sticks at 2097152 s": the count goes on, to its end
   pub operating : (n : OperatingCount) → n .0 < 4294967295 → operatingStep n .0 ≡ n .0 + 1
   pub at-the-end : (n : OperatingCount) → n .0 ≡ 4294967295 → operatingStep n .0 ≡ 4294967295

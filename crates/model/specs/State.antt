@@ -21,40 +21,40 @@ use Rattle.model.specs.declared.Module.{Module}
 
 -- ---- a channel with one group anew
 abbrev pub withConfig : Config → Channel → Channel
-withConfig x ch = record { config = x; flags = ch .flags; timers = ch .timers; presets = ch .presets; currents = ch .currents; errors = ch .errors; counter = ch .counter; operating = ch .operating; user = ch .user; reals = ch .reals; service = ch .service; kept = ch .kept }
+withConfig x ch = record { config = x; flags = ch .flags; timers = ch .timers; presets = ch .presets; currents = ch .currents; errors = ch .errors; counter = ch .counter; operating = ch .operating; user = ch .user; reals = ch .reals; maintenance = ch .maintenance; kept = ch .kept }
 
 abbrev pub withFlags : Flags → Channel → Channel
-withFlags x ch = record { config = ch .config; flags = x; timers = ch .timers; presets = ch .presets; currents = ch .currents; errors = ch .errors; counter = ch .counter; operating = ch .operating; user = ch .user; reals = ch .reals; service = ch .service; kept = ch .kept }
+withFlags x ch = record { config = ch .config; flags = x; timers = ch .timers; presets = ch .presets; currents = ch .currents; errors = ch .errors; counter = ch .counter; operating = ch .operating; user = ch .user; reals = ch .reals; maintenance = ch .maintenance; kept = ch .kept }
 
 abbrev pub withTimers : Timers → Channel → Channel
-withTimers x ch = record { config = ch .config; flags = ch .flags; timers = x; presets = ch .presets; currents = ch .currents; errors = ch .errors; counter = ch .counter; operating = ch .operating; user = ch .user; reals = ch .reals; service = ch .service; kept = ch .kept }
+withTimers x ch = record { config = ch .config; flags = ch .flags; timers = x; presets = ch .presets; currents = ch .currents; errors = ch .errors; counter = ch .counter; operating = ch .operating; user = ch .user; reals = ch .reals; maintenance = ch .maintenance; kept = ch .kept }
 
 abbrev pub withPresets : Timers → Channel → Channel
-withPresets x ch = record { config = ch .config; flags = ch .flags; timers = ch .timers; presets = x; currents = ch .currents; errors = ch .errors; counter = ch .counter; operating = ch .operating; user = ch .user; reals = ch .reals; service = ch .service; kept = ch .kept }
+withPresets x ch = record { config = ch .config; flags = ch .flags; timers = ch .timers; presets = x; currents = ch .currents; errors = ch .errors; counter = ch .counter; operating = ch .operating; user = ch .user; reals = ch .reals; maintenance = ch .maintenance; kept = ch .kept }
 
 abbrev pub withCurrents : Currents → Channel → Channel
-withCurrents x ch = record { config = ch .config; flags = ch .flags; timers = ch .timers; presets = ch .presets; currents = x; errors = ch .errors; counter = ch .counter; operating = ch .operating; user = ch .user; reals = ch .reals; service = ch .service; kept = ch .kept }
+withCurrents x ch = record { config = ch .config; flags = ch .flags; timers = ch .timers; presets = ch .presets; currents = x; errors = ch .errors; counter = ch .counter; operating = ch .operating; user = ch .user; reals = ch .reals; maintenance = ch .maintenance; kept = ch .kept }
 
 abbrev pub withErrors : Errors → Channel → Channel
-withErrors x ch = record { config = ch .config; flags = ch .flags; timers = ch .timers; presets = ch .presets; currents = ch .currents; errors = x; counter = ch .counter; operating = ch .operating; user = ch .user; reals = ch .reals; service = ch .service; kept = ch .kept }
+withErrors x ch = record { config = ch .config; flags = ch .flags; timers = ch .timers; presets = ch .presets; currents = ch .currents; errors = x; counter = ch .counter; operating = ch .operating; user = ch .user; reals = ch .reals; maintenance = ch .maintenance; kept = ch .kept }
 
 abbrev pub withCounter : ℤ → Channel → Channel
-withCounter x ch = record { config = ch .config; flags = ch .flags; timers = ch .timers; presets = ch .presets; currents = ch .currents; errors = ch .errors; counter = x; operating = ch .operating; user = ch .user; reals = ch .reals; service = ch .service; kept = ch .kept }
+withCounter x ch = record { config = ch .config; flags = ch .flags; timers = ch .timers; presets = ch .presets; currents = ch .currents; errors = ch .errors; counter = x; operating = ch .operating; user = ch .user; reals = ch .reals; maintenance = ch .maintenance; kept = ch .kept }
 
 abbrev pub withOperating : OperatingCount → Channel → Channel
-withOperating x ch = record { config = ch .config; flags = ch .flags; timers = ch .timers; presets = ch .presets; currents = ch .currents; errors = ch .errors; counter = ch .counter; operating = x; user = ch .user; reals = ch .reals; service = ch .service; kept = ch .kept }
+withOperating x ch = record { config = ch .config; flags = ch .flags; timers = ch .timers; presets = ch .presets; currents = ch .currents; errors = ch .errors; counter = ch .counter; operating = x; user = ch .user; reals = ch .reals; maintenance = ch .maintenance; kept = ch .kept }
 
 abbrev pub withUser : List ℕ → Channel → Channel
-withUser x ch = record { config = ch .config; flags = ch .flags; timers = ch .timers; presets = ch .presets; currents = ch .currents; errors = ch .errors; counter = ch .counter; operating = ch .operating; user = x; reals = ch .reals; service = ch .service; kept = ch .kept }
+withUser x ch = record { config = ch .config; flags = ch .flags; timers = ch .timers; presets = ch .presets; currents = ch .currents; errors = ch .errors; counter = ch .counter; operating = ch .operating; user = x; reals = ch .reals; maintenance = ch .maintenance; kept = ch .kept }
 
 abbrev pub withReals : List ℕ → Channel → Channel
-withReals x ch = record { config = ch .config; flags = ch .flags; timers = ch .timers; presets = ch .presets; currents = ch .currents; errors = ch .errors; counter = ch .counter; operating = ch .operating; user = ch .user; reals = x; service = ch .service; kept = ch .kept }
+withReals x ch = record { config = ch .config; flags = ch .flags; timers = ch .timers; presets = ch .presets; currents = ch .currents; errors = ch .errors; counter = ch .counter; operating = ch .operating; user = ch .user; reals = x; maintenance = ch .maintenance; kept = ch .kept }
 
-abbrev pub withService : List ℕ → Channel → Channel
-withService x ch = record { config = ch .config; flags = ch .flags; timers = ch .timers; presets = ch .presets; currents = ch .currents; errors = ch .errors; counter = ch .counter; operating = ch .operating; user = ch .user; reals = ch .reals; service = x; kept = ch .kept }
+abbrev pub withMaintenance : List ℕ → Channel → Channel
+withMaintenance x ch = record { config = ch .config; flags = ch .flags; timers = ch .timers; presets = ch .presets; currents = ch .currents; errors = ch .errors; counter = ch .counter; operating = ch .operating; user = ch .user; reals = ch .reals; maintenance = x; kept = ch .kept }
 
 abbrev pub withKept : Kept → Channel → Channel
-withKept x ch = record { config = ch .config; flags = ch .flags; timers = ch .timers; presets = ch .presets; currents = ch .currents; errors = ch .errors; counter = ch .counter; operating = ch .operating; user = ch .user; reals = ch .reals; service = ch .service; kept = x }
+withKept x ch = record { config = ch .config; flags = ch .flags; timers = ch .timers; presets = ch .presets; currents = ch .currents; errors = ch .errors; counter = ch .counter; operating = ch .operating; user = ch .user; reals = ch .reals; maintenance = ch .maintenance; kept = x }
 
 -- ---- its flags
 abbrev pub outFlag : Channel → Bool
@@ -123,19 +123,17 @@ abbrev pub setMaxCurrent : Float → Channel → Channel
 setMaxCurrent x ch = withCurrents (record { out = ch .currents .out; min = ch .currents .min; max = x }) ch
 
 -- ---- the box
-abbrev pub withShared : Shared → Module → Module
-withShared s m = record { shared = s; service = m .service; channels = m .channels }
-
 abbrev pub withServiceRecord : Service → Module → Module
 withServiceRecord v m = record { shared = m .shared; service = v; channels = m .channels }
 
 abbrev pub withChannels : List Channel → Module → Module
 withChannels cs m = record { shared = m .shared; service = m .service; channels = cs }
 
--- what stands past the end of a list of channels, in the prover's account of an array
+-- no error
 abbrev pub noBits : ErrorBits
 noBits = record { overload = false; underload = false; external = false; internal = false; disconnected = false; feedback = false; program = false }
 
+-- what stands past the end of a list of channels, in the prover's account of an array
 abbrev pub nothing : Channel
 nothing =
     record {
@@ -149,11 +147,11 @@ nothing =
       operating = record { 0 = 0 };
       user = [];
       reals = [];
-      service = [];
+      maintenance = [];
       kept = record { counter = pos 0; operating = record { 0 = 0 }; user = [] };
     }
 
--- channel k, and the box with it anew
+-- channel k, counted from 1, and the box with it anew
 abbrev pub channelAt : Module → ℕ → Channel
 channelAt m k = getD (m .channels) (k - 1) nothing
 

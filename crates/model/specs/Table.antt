@@ -12,13 +12,13 @@ use Rattle.model.specs.declared.Channel.{Channel}
 use Rattle.model.specs.declared.Module.{Module}
 use Rattle.model.specs.State.{channelAt, outTimer, fbTimer}
 use Rattle.model.specs.Settings.{output}
-use Rattle.model.specs.Image.{Entry, Setup, entryFrom, started, realZero}
+use Rattle.model.specs.Image.{Entry, Setup, entrySize, entryFrom, started, realZero}
 use Rattle.model.specs.Questions.{numberOf}
 use Rattle.model.specs.Calls.{Request, write, tick, step, run}
 
 -- settings: the watchdog off; channel 1 with these Functions and this OutPreset, the other channels all zero
 abbrev pub noEntry : Entry
-noEntry = entryFrom (replicate 44 0)
+noEntry = entryFrom (replicate entrySize 0)
 
 abbrev pub firstEntry : ℕ → ℕ → Entry
 firstEntry functions preset =
@@ -29,7 +29,7 @@ firstEntry functions preset =
       min = realZero;
       max = realZero;
       reals = replicate 8 0;
-      service = replicate 4 0;
+      maintenance = replicate 4 0;
       user = replicate 4 0;
       counter = pos 0;
       operating = record { 0 = 0 };

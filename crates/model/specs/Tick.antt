@@ -46,11 +46,11 @@ abbrev pub withWatchdog : Bool → ServiceBits → ServiceBits
 withWatchdog b e = record { internal = e .internal; external = e .external; watchdog = b }
 
 unfoldable pub tickService : Bool → Service → Service
-tickService out v = record { watchdog = watchdogTick (v .watchdog); act = withWatchdog (v .act .watchdog || out) (v .act); his = withWatchdog (v .his .watchdog || out) (v .his) }
+tickService ranOut v = record { watchdog = watchdogTick (v .watchdog); act = withWatchdog (v .act .watchdog || ranOut) (v .act); his = withWatchdog (v .his .watchdog || ranOut) (v .his) }
 
 -- "and every OutFlag and Control cleared"
 unfoldable pub shutDown : Bool → Channel → Channel
-shutDown out ch = cond out (setOutFlag false (setControl false ch)) ch
+shutDown ranOut ch = cond ranOut (setOutFlag false (setControl false ch)) ch
 
 -- ---- 2. "OutTimer counts down by 8 and wraps. FBTimer counts down by 8 and stops at −2147483648."
 unfoldable pub timersRun : Channel → Channel
@@ -111,7 +111,7 @@ guarded s ch = cond (overloaded s ch) (changed (outFlag ch) (tripped ch)) ch
 
 -- steps 1 to 4 of a channel, "then the change rule once against the tick's start"
 unfoldable pub driven : Shared → Bool → Channel → Channel
-driven s out ch = let run = timersRun (shutDown out ch) in guarded s (changed (outFlag ch) (special (functions run) run))
+driven s ranOut ch = let run = timersRun (shutDown ranOut ch) in guarded s (changed (outFlag ch) (special (functions run) run))
 
 -- ---- 5. "If FreeRunTimer is a multiple of 32"
 unfoldable pub lookDue : Shared → Bool
@@ -175,8 +175,8 @@ unfoldable pub saved : Bool → Channel → Channel
 saved due ch = cond due (keepOperating (keepCounter ch)) ch
 
 -- steps 5 to 7 of a channel: s after step 1, and whether the tick saves
-unfoldable pub watched : Shared → Bool → List Bool → Channel → Channel
-watched s due levels ch = saved due (judged s (looked s levels ch))
+unfoldable pub reviewed : Shared → Bool → List Bool → Channel → Channel
+reviewed s due levels ch = saved due (judged s (looked s levels ch))
 
 -- ---- the whole tick: every channel against the InFlags of the tick's start
 abbrev pub levels : Module → List Bool
@@ -185,9 +185,9 @@ levels m = map inFlag (m .channels)
 unfoldable pub ticked : Module → Module
 ticked m =
     let s = tickShared (m .shared) in
-    let out = runsOut (m .shared) (m .service .watchdog) in
+    let ranOut = runsOut (m .shared) (m .service .watchdog) in
     record {
       shared = s;
-      service = tickService out (m .service);
-      channels = map (λ (ch : Channel). watched s (saveDue (m .shared)) (levels m) (driven s out ch)) (m .channels);
+      service = tickService ranOut (m .service);
+      channels = map (λ (ch : Channel). reviewed s (saveDue (m .shared)) (levels m) (driven s ranOut ch)) (m .channels);
     }

@@ -86,13 +86,6 @@ struck c ns [] = []
 struck c ns (x ∷ xs) = cond (isFor (stranger c ns) (ownerOf x)) (struck c ns xs) (x ∷ struck c ns xs)
 
 -- ---- ticks: at each, whether a wire call came since the tick before; w says it of the time before the list
-abbrev pub isWire : Request → Bool
-isWire (read n lent) = true
-isWire (write n bs) = true
-isWire (level k b) = false
-isWire (current k x) = false
-isWire tick = false
-
 unfoldable pub marks : Bool → List Request → List Bool
 marks w [] = []
 marks w (read n lent ∷ xs) = marks true xs

@@ -24,7 +24,7 @@ use Rattle.model.specs.declared.CommonRegister.{CommonRegister}
 use Rattle.model.specs.declared.ServiceRegister.the-variants.{Highest, Reset, FreeRunTimer, WDTimer, ModuleConfig, WDPreset, WriteEnable, CommonError}
 use Rattle.model.specs.declared.DigitalRegister.the-variants.{FlagReg, OutTimer, Counter, OutCurrent, OperatingTime, UserBytes, FBTimer, FBPreset, OutPreset, ChConfig, MinCurrent, MaxCurrent, UserReals, Maintenance, ChError}
 use Rattle.model.specs.declared.CommonRegister.the-variants.{OutFlags, InFlags, IOChError, ChError as CommonChError}
-use Rattle.model.specs.State.{withCounter, withOperating, withUser, withReals, withService, setOutTimer, setFBTimer, setOutPreset, setFBPreset, setMinCurrent, setMaxCurrent, withChannels, channelAt, putChannel}
+use Rattle.model.specs.State.{withCounter, withOperating, withUser, withReals, withMaintenance, setOutTimer, setFBTimer, setOutPreset, setFBPreset, setMinCurrent, setMaxCurrent, withChannels, channelAt, putChannel}
 use Rattle.model.specs.Settings.{bit}
 use Rattle.model.specs.Channel.{acknowledged, simulate, takeCurrent, flagRegWritten, outFlagsWritten, chConfigWritten, keepCounter, keepOperating, keepUser}
 use Rattle.model.specs.Errors.{serviceAcknowledged}
@@ -140,7 +140,7 @@ digitalWritten ChConfig s bs ch = chConfigWritten (configFrom bs) ch
 digitalWritten MinCurrent s bs ch = setMinCurrent (realFrom bs) ch
 digitalWritten MaxCurrent s bs ch = setMaxCurrent (realFrom bs) ch
 digitalWritten UserReals s bs ch = withReals bs ch
-digitalWritten Maintenance s bs ch = withService bs ch
+digitalWritten Maintenance s bs ch = withMaintenance bs ch
 digitalWritten ChError s bs ch = ch
 
 -- ---- a common register, at the channel of bit i

@@ -93,11 +93,11 @@ pub struct Channel {
     pub operating: OperatingCount,
     pub user: [u8; 4],
     pub reals: [u8; 8],
-    pub service: [u8; 4],
+    pub maintenance: [u8; 4],
     pub kept: Kept,
 }
 
-// What every channel may learn of the box, and no channel's call can change: FreeRunTimer,
+// What every channel may learn of the box, and no digital channel's call can change: FreeRunTimer,
 // ModuleConfig, WDPreset, WriteEnable, and the ticks since the last save.
 #[repr(C)]
 pub struct Shared {
@@ -181,10 +181,10 @@ pub enum Access {
 pub enum Refusal {
     Beyond,
     Unlisted,
-    ReadOnly,
+    NotWritable,
     WrongLength,
     BufferTooShort,
-    Protected,
+    NotEnabled,
     NotAllowed,
     NoChannel,
     NotFinite,

@@ -35,7 +35,7 @@ pub record Held (e : Entry) : Type 0 where
   pub min : Limit (e .min)
   pub max : Limit (e .max)
   pub reals : length (e .reals) ≡ 8
-  pub service : length (e .service) ≡ 4
+  pub maintenance : length (e .maintenance) ≡ 4
   pub counts : Counted (e .counter) (e .operating) (e .user)
 
 -- ---- from bytes
@@ -105,7 +105,7 @@ module _ (l : List ℕ) (e : length l ≡ 44) (t : T (areBytes l)) (h : T (entry
         min = limit-from (part 12 4 l) (allowed-limits .0);
         max = limit-from (part 16 4 l) (allowed-limits .1);
         reals = long 20 8 (omega arith);
-        service = long 28 4 (omega arith);
+        maintenance = long 28 4 (omega arith);
         counts =
             record {
               counter-fits = signed-fits (part 36 4 l) (long 36 4 (omega arith)) (bytes-part 36 4 l t);
@@ -116,16 +116,16 @@ module _ (l : List ℕ) (e : length l ≡ 44) (t : T (areBytes l)) (h : T (entry
 
 -- ---- to bytes
 module _ (e : Entry) (h : Held e) where
-  -- what stands after the Reals, after the service bytes and after the user's
-  after-reals : drop 28 (entryBytes e) ≡ e .service ++ (e .user ++ (signedBytes 4 (e .counter) ++ bytesOf 4 (e .operating .0)))
+  -- what stands after the Reals, after the maintenance bytes and after the user's
+  after-reals : drop 28 (entryBytes e) ≡ e .maintenance ++ (e .user ++ (signedBytes 4 (e .counter) ++ bytesOf 4 (e .operating .0)))
   unfolding entryBytes signedBytes realBytes bytesOf
   after-reals = drop-at (e .reals) _ 8 (h .reals)
 
-  after-service : drop 32 (entryBytes e) ≡ e .user ++ (signedBytes 4 (e .counter) ++ bytesOf 4 (e .operating .0))
-  after-service = sym (drop-drop 4 28 (entryBytes e)) ∙ ap (drop 4) after-reals ∙ drop-at (e .service) _ 4 (h .service)
+  after-maintenance : drop 32 (entryBytes e) ≡ e .user ++ (signedBytes 4 (e .counter) ++ bytesOf 4 (e .operating .0))
+  after-maintenance = sym (drop-drop 4 28 (entryBytes e)) ∙ ap (drop 4) after-reals ∙ drop-at (e .maintenance) _ 4 (h .maintenance)
 
   after-user : drop 36 (entryBytes e) ≡ signedBytes 4 (e .counter) ++ bytesOf 4 (e .operating .0)
-  after-user = sym (drop-drop 4 32 (entryBytes e)) ∙ ap (drop 4) after-service ∙ drop-at (e .user) _ 4 (h .counts .user-long)
+  after-user = sym (drop-drop 4 32 (entryBytes e)) ∙ ap (drop 4) after-maintenance ∙ drop-at (e .user) _ 4 (h .counts .user-long)
 
   -- each value is found where it stands
   pub entry-back : entryFrom (entryBytes e) ≡ e
@@ -135,9 +135,9 @@ module _ (e : Entry) (h : Held e) where
       let out = signed-back (e .out .0) (h .out .fits) in
       let min = limit-back (e .min) (h .min) in
       let max = limit-back (e .max) (h .max) in
-      let reals = take-at (e .reals) (e .service ++ (e .user ++ (signedBytes 4 (e .counter) ++ bytesOf 4 (e .operating .0)))) 8 (h .reals) in
-      let service = ap (take 4) after-reals ∙ take-at (e .service) _ 4 (h .service) in
-      let user = ap (take 4) after-service ∙ take-at (e .user) _ 4 (h .counts .user-long) in
+      let reals = take-at (e .reals) (e .maintenance ++ (e .user ++ (signedBytes 4 (e .counter) ++ bytesOf 4 (e .operating .0)))) 8 (h .reals) in
+      let maintenance = ap (take 4) after-reals ∙ take-at (e .maintenance) _ 4 (h .maintenance) in
+      let user = ap (take 4) after-maintenance ∙ take-at (e .user) _ 4 (h .counts .user-long) in
       let counter = ap (λ (l : List ℕ). signedNumber (take 4 l)) after-user ∙ signed-back (e .counter) (h .counts .counter-fits) in
       let operating = ap (λ (l : List ℕ). number (take 4 l)) (sym (drop-drop 4 36 (entryBytes e)) ∙ ap (drop 4) after-user) ∙ come-back .numbers 4 (e .operating .0) (h .counts .operating-fits) in
       λ i.
@@ -148,7 +148,7 @@ module _ (e : Entry) (h : Held e) where
         min = min i;
         max = max i;
         reals = reals i;
-        service = service i;
+        maintenance = maintenance i;
         user = user i;
         counter = counter i;
         operating = record { 0 = operating i };
@@ -167,4 +167,4 @@ module _ (e : Entry) (h : Held e) where
   -- in 44 bytes
   pub entry-length : length (entryBytes e) ≡ 44
   unfolding entryBytes signedBytes realBytes bytesOf
-  entry-length = simp length-append (omega (arith, h .reals, h .service, h .counts .user-long))
+  entry-length = simp length-append (omega (arith, h .reals, h .maintenance, h .counts .user-long))

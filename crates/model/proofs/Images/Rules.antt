@@ -15,7 +15,7 @@ use Rattle.model.specs.State.{outFlag, inFlag, control, outTimer, setOut
 use Rattle.model.specs.Settings.{bit, functions, notInput, isSpecial, simulatesInput, silencesOverload}
 use Rattle.model.specs.Image.{entryOf}
 use Rattle.model.specs.Channel.{setOverload, setPrgError, acknowledged, startFBTimer, awaitFeedback, changed, aboveTrip, inputBecomes, takeLevel, simulate, tripped, takeCurrent, takeOut, takeControl, clearActs, flagRegWritten, outFlagsWritten, keepCounter, keepOperating, keepUser}
-use Rattle.model.specs.Tick.{shutDown, timersRun, rose, fell, reload, dropped, seen, timed, turned, oneShot, dutyCycle, timerOutput, special, overloaded, guarded, driven, lookDue, feedbackWrong, operated, looked, judged, saved, watched}
+use Rattle.model.specs.Tick.{shutDown, timersRun, rose, fell, reload, dropped, seen, timed, turned, oneShot, dutyCycle, timerOutput, special, overloaded, guarded, driven, lookDue, feedbackWrong, operated, looked, judged, saved, reviewed}
 use Rattle.model.proofs.Images.Entries.{Counted, Held}
 
 -- the kept values in their ranges, and so the working ones of registers 2, 4 and 5
@@ -39,7 +39,7 @@ module _ (ch : Channel) (h : Sound ch) where
       min = h .0 .min;
       max = h .0 .max;
       reals = h .0 .reals;
-      service = h .0 .service;
+      maintenance = h .0 .maintenance;
       counts = c;
     },
     h .1,
@@ -173,6 +173,6 @@ unfolding saved
 saved-sound due ch h = either due (keepOperating (keepCounter ch)) ch (keep-operating-sound (keepCounter ch) (keep-counter-sound ch h)) h
 
 -- all steps; step 6 finds errors alone
-pub ticked-sound : (s : Shared) (due out : Bool) (levels : List Bool) (ch : Channel) → Sound ch → Sound (watched s due levels (driven s out ch))
-unfolding watched judged
+pub ticked-sound : (s : Shared) (due out : Bool) (levels : List Bool) (ch : Channel) → Sound ch → Sound (reviewed s due levels (driven s out ch))
+unfolding reviewed judged
 ticked-sound s due out levels ch h = saved-sound due _ (looked-sound s levels (driven s out ch) (driven-sound s out ch h))

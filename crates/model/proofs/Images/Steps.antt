@@ -18,7 +18,7 @@ use Rattle.model.specs.declared.DigitalRegister.the-variants.{FlagReg, O
 use Rattle.model.specs.State.{channelAt}
 use Rattle.model.specs.Registers.{Place, service, digital, common, unlisted, beyond, place, size}
 use Rattle.model.specs.Reads.{configBytes, serviceRead, digitalRead, afterRead}
-use Rattle.model.specs.Tick.{saveDue, tickShared, runsOut, levels, watched, driven, ticked}
+use Rattle.model.specs.Tick.{saveDue, tickShared, runsOut, levels, reviewed, driven, ticked}
 use Rattle.model.specs.Image.{entryOf, moduleConfigAllowed}
 use Rattle.model.specs.Writes.{allowed, serviceAllowed, sharedWritten, everyWritten, serviceWritten, commonWritten, written}
 use Rattle.model.specs.Questions.{writeQuestions, readReply, writeReply, levelReply, currentReply}
@@ -158,7 +158,7 @@ ticked-valid m v =
       config = v .config;
       preset = v .preset;
       count = length-map (m .channels) _ ∙ v .count;
-      channels = map-sound (λ (ch : Channel). watched s due (levels m) (driven s out ch)) (ticked-sound s due out (levels m)) (m .channels) (v .channels);
+      channels = map-sound (λ (ch : Channel). reviewed s due (levels m) (driven s out ch)) (ticked-sound s due out (levels m)) (m .channels) (v .channels);
     }
 
 -- ---- any call, and any list of calls

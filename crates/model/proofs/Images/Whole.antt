@@ -107,7 +107,7 @@ module _ (s : Setup) (h : SetupHeld s) where
   unfolding body signedBytes bytesOf
   body-long = simp length-append (omega (arith, rows-long))
 
-  encode-long : length (encode s) ≡ 717
+  pub encode-long : length (encode s) ≡ 717
   unfolding encode
   encode-long = length-append (body s) _ ∙ omega (arith, body-long, length-bytes 2 (total (body s) % 65536))
 

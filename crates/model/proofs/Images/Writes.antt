@@ -21,7 +21,7 @@ use Rattle.model.specs.declared.DigitalRegister.{DigitalRegister}
 use Rattle.model.specs.declared.CommonRegister.{CommonRegister}
 use Rattle.model.specs.declared.DigitalRegister.the-variants.{FlagReg, OutTimer, Counter, OutCurrent, OperatingTime, UserBytes, FBTimer, FBPreset, OutPreset, ChConfig, MinCurrent, MaxCurrent, UserReals, Maintenance, ChError}
 use Rattle.model.specs.declared.CommonRegister.the-variants.{OutFlags, InFlags, IOChError, ChError as CommonChError}
-use Rattle.model.specs.State.{outFlag, withConfig, withCounter, withOperating, withUser, withReals, withService, setOutFlag, setControl, setFBStatus, setInternalState, setOutPreset, setFBPreset, setMinCurrent, setMaxCurrent}
+use Rattle.model.specs.State.{outFlag, withConfig, withCounter, withOperating, withUser, withReals, withMaintenance, setOutFlag, setControl, setFBStatus, setInternalState, setOutPreset, setFBPreset, setMinCurrent, setMaxCurrent}
 use Rattle.model.specs.Settings.{bit}
 use Rattle.model.specs.Reads.{configBytes}
 use Rattle.model.specs.Channel.{chConfigWritten, keepCounter, keepOperating, keepUser}
@@ -40,37 +40,37 @@ module _ (ch : Channel) (h : Sound ch) where
   -- ChConfig
   new-config : (g : Config) → T (configAllowed (configBytes g)) → Sound (withConfig g ch)
   new-config g a =
-      (record { config = a; feedback = h .0 .feedback; out = h .0 .out; min = h .0 .min; max = h .0 .max; reals = h .0 .reals; service = h .0 .service; counts = h .0 .counts }, h .1)
+      (record { config = a; feedback = h .0 .feedback; out = h .0 .out; min = h .0 .min; max = h .0 .max; reals = h .0 .reals; maintenance = h .0 .maintenance; counts = h .0 .counts }, h .1)
 
   -- FBPreset
   new-feedback : (t : TimerCount) → Preset (t .0) → Sound (setFBPreset t ch)
   new-feedback t a =
-      (record { config = h .0 .config; feedback = a; out = h .0 .out; min = h .0 .min; max = h .0 .max; reals = h .0 .reals; service = h .0 .service; counts = h .0 .counts }, h .1)
+      (record { config = h .0 .config; feedback = a; out = h .0 .out; min = h .0 .min; max = h .0 .max; reals = h .0 .reals; maintenance = h .0 .maintenance; counts = h .0 .counts }, h .1)
 
   -- OutPreset
   new-out : (t : TimerCount) → Preset (t .0) → Sound (setOutPreset t ch)
   new-out t a =
-      (record { config = h .0 .config; feedback = h .0 .feedback; out = a; min = h .0 .min; max = h .0 .max; reals = h .0 .reals; service = h .0 .service; counts = h .0 .counts }, h .1)
+      (record { config = h .0 .config; feedback = h .0 .feedback; out = a; min = h .0 .min; max = h .0 .max; reals = h .0 .reals; maintenance = h .0 .maintenance; counts = h .0 .counts }, h .1)
 
   -- MinCurrent
   new-min : (x : Float) → Limit x → Sound (setMinCurrent x ch)
   new-min x a =
-      (record { config = h .0 .config; feedback = h .0 .feedback; out = h .0 .out; min = a; max = h .0 .max; reals = h .0 .reals; service = h .0 .service; counts = h .0 .counts }, h .1)
+      (record { config = h .0 .config; feedback = h .0 .feedback; out = h .0 .out; min = a; max = h .0 .max; reals = h .0 .reals; maintenance = h .0 .maintenance; counts = h .0 .counts }, h .1)
 
   -- MaxCurrent
   new-max : (x : Float) → Limit x → Sound (setMaxCurrent x ch)
   new-max x a =
-      (record { config = h .0 .config; feedback = h .0 .feedback; out = h .0 .out; min = h .0 .min; max = a; reals = h .0 .reals; service = h .0 .service; counts = h .0 .counts }, h .1)
+      (record { config = h .0 .config; feedback = h .0 .feedback; out = h .0 .out; min = h .0 .min; max = a; reals = h .0 .reals; maintenance = h .0 .maintenance; counts = h .0 .counts }, h .1)
 
   -- UserReals
   new-reals : (bs : List ℕ) → length bs ≡ 8 → Sound (withReals bs ch)
   new-reals bs a =
-      (record { config = h .0 .config; feedback = h .0 .feedback; out = h .0 .out; min = h .0 .min; max = h .0 .max; reals = a; service = h .0 .service; counts = h .0 .counts }, h .1)
+      (record { config = h .0 .config; feedback = h .0 .feedback; out = h .0 .out; min = h .0 .min; max = h .0 .max; reals = a; maintenance = h .0 .maintenance; counts = h .0 .counts }, h .1)
 
   -- Maintenance
-  new-service : (bs : List ℕ) → length bs ≡ 4 → Sound (withService bs ch)
-  new-service bs a =
-      (record { config = h .0 .config; feedback = h .0 .feedback; out = h .0 .out; min = h .0 .min; max = h .0 .max; reals = h .0 .reals; service = a; counts = h .0 .counts }, h .1)
+  new-maintenance : (bs : List ℕ) → length bs ≡ 4 → Sound (withMaintenance bs ch)
+  new-maintenance bs a =
+      (record { config = h .0 .config; feedback = h .0 .feedback; out = h .0 .out; min = h .0 .min; max = h .0 .max; reals = h .0 .reals; maintenance = a; counts = h .0 .counts }, h .1)
 
 -- ---- the registers of a channel
 module _ (s : Shared) (bs : List ℕ) (t : T (areBytes bs)) (ch : Channel) (h : Sound ch) where
@@ -119,7 +119,7 @@ module _ (s : Shared) (bs : List ℕ) (t : T (areBytes bs)) (ch : Channel) (h : 
   digital-sound MinCurrent e a = new-min ch h (realFrom bs) (limit-from bs a)
   digital-sound MaxCurrent e a = new-max ch h (realFrom bs) (limit-from bs a)
   digital-sound UserReals e a = new-reals ch h bs e
-  digital-sound Maintenance e a = new-service ch h bs e
+  digital-sound Maintenance e a = new-maintenance ch h bs e
   digital-sound ChError e a = h
 
 -- ---- the common registers

@@ -36,7 +36,7 @@ use Rattle.model.specs.TwoLists.{namesOf, names, among, stranger}
 use Rattle.model.proofs.Laws.Tests.{either, both, left, right, range}
 use Rattle.model.proofs.Laws.Lists.{length-each, at-each, at-map}
 use Rattle.model.proofs.Laws.Places.{place-cases}
-use Rattle.model.proofs.Laws.Inputs.{Inputs, inputs, taken, simulated, in-driven, in-watched, write-in, in-written, in-read, every-in, in-every, common-in, in-common}
+use Rattle.model.proofs.Laws.Inputs.{Inputs, inputs, taken, simulated, in-driven, in-reviewed, write-in, in-written, in-read, every-in, in-every, common-in, in-common}
 
 -- ---- names
 abbrev pub Within : List ℕ → List ℕ → Type 0
@@ -252,9 +252,9 @@ module _ (c : ℕ) (ns : List ℕ) where
     unfolding Tick.feedbackWrong
     feedback-alike ch h = rw (inA-alike ch h, inB-alike ch h)
 
-    watched-alike : (s : Shared) (due : Bool) (ch : Channel) → Held (inputs ch) → Tick.watched s due (levels m) ch ≡ Tick.watched s due (levels m′) ch
-    unfolding Tick.watched Tick.looked
-    watched-alike s due ch h = ap (λ (x : Bool). Tick.saved due (Tick.judged s (cond (Tick.lookDue s) (Tick.operated (setFBStatus x ch)) ch))) (feedback-alike ch h)
+    reviewed-alike : (s : Shared) (due : Bool) (ch : Channel) → Held (inputs ch) → Tick.reviewed s due (levels m) ch ≡ Tick.reviewed s due (levels m′) ch
+    unfolding Tick.reviewed Tick.looked
+    reviewed-alike s due ch h = ap (λ (x : Bool). Tick.saved due (Tick.judged s (cond (Tick.lookDue s) (Tick.operated (setFBStatus x ch)) ch))) (feedback-alike ch h)
 
     pub tick-alike : m .service .watchdog ≡ m′ .service .watchdog → Alike (Tick.ticked m) (Tick.ticked m′)
     unfolding Tick.ticked
@@ -265,9 +265,9 @@ module _ (c : ℕ) (ns : List ℕ) where
           ap Tick.tickShared (a .0),
           rw (← a .0, ← e) (channels-map _ _ (λ i x y h.
               record {
-                same = λ p. watched-alike s due (Tick.driven s out x) (subst Held (sym (in-driven s out x)) (h .held p)) ∙ ap (λ (z : Channel). Tick.watched s due (levels m′) (Tick.driven s out z)) (h .same p);
-                held = λ p. subst Held (sym (in-watched s due (levels m) (Tick.driven s out x) ∙ in-driven s out x)) (h .held p);
-                seen = λ t. in-watched s due (levels m) (Tick.driven s out x) ∙ in-driven s out x ∙ h .seen t ∙ sym (in-watched s due (levels m′) (Tick.driven s out y) ∙ in-driven s out y);
+                same = λ p. reviewed-alike s due (Tick.driven s out x) (subst Held (sym (in-driven s out x)) (h .held p)) ∙ ap (λ (z : Channel). Tick.reviewed s due (levels m′) (Tick.driven s out z)) (h .same p);
+                held = λ p. subst Held (sym (in-reviewed s due (levels m) (Tick.driven s out x) ∙ in-driven s out x)) (h .held p);
+                seen = λ t. in-reviewed s due (levels m) (Tick.driven s out x) ∙ in-driven s out x ∙ h .seen t ∙ sym (in-reviewed s due (levels m′) (Tick.driven s out y) ∙ in-driven s out y);
               }) (a .1)),
         )
 

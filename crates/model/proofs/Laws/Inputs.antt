@@ -180,9 +180,9 @@ in-looked : (s : Shared) (levels : List Bool) (ch : Channel) → inputs (Tick.lo
 unfolding Tick.looked
 in-looked s levels ch = either (Kept ch) (Tick.lookDue s) (in-operated (setFBStatus (Tick.feedbackWrong levels ch) ch)) refl
 
-pub in-watched : (s : Shared) (due : Bool) (levels : List Bool) (ch : Channel) → inputs (Tick.watched s due levels ch) ≡ inputs ch
-unfolding Tick.watched
-in-watched s due levels ch = in-saved _ _ ∙ in-judged _ _ ∙ in-looked _ _ _
+pub in-reviewed : (s : Shared) (due : Bool) (levels : List Bool) (ch : Channel) → inputs (Tick.reviewed s due levels ch) ≡ inputs ch
+unfolding Tick.reviewed
+in-reviewed s due levels ch = in-saved _ _ ∙ in-judged _ _ ∙ in-looked _ _ _
 
 -- ---- writes and reads
 unfoldable pub write-in : DigitalRegister → List ℕ → Inputs → Inputs
