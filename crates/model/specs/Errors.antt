@@ -11,19 +11,19 @@ use Rattle.model.specs.declared.Service.{Service}
 use Rattle.model.specs.declared.Module.{Module}
 
 -- ---- bits of a number
-abbrev pub num : Bool → ℕ
-num true = 1
-num false = 0
+abbrev pub bitValue : Bool → ℕ
+bitValue true = 1
+bitValue false = 0
 
 -- the highest bit first
 abbrev pub byteOf : List Bool → ℕ
 byteOf [] = 0
-byteOf (b ∷ bs) = num b * 2 ^ length bs + byteOf bs
+byteOf (b ∷ bs) = bitValue b * 2 ^ length bs + byteOf bs
 
 -- the lowest bit first
 abbrev pub wordOf : List Bool → ℕ
 wordOf [] = 0
-wordOf (b ∷ bs) = num b + 2 * wordOf bs
+wordOf (b ∷ bs) = bitValue b + 2 * wordOf bs
 
 abbrev pub any : (Channel → Bool) → List Channel → Bool
 any p [] = false

@@ -71,9 +71,18 @@ entriesBytes (e ∷ es) = entryBytes e ++ entriesBytes es
 abbrev pub moduleBytes : Setup → List ℕ
 moduleBytes s = configBytes (s .config) ++ signedBytes 4 (s .preset .0)
 
--- all before the sum: the section of the box, that of the channels, and the count of the last
+-- the sections, each after its count: that of the box, that of the channels, and the last, whose sum is still to come
+abbrev pub sections : Setup → List (List ℕ)
+sections s = (1 ∷ moduleBytes s) ∷ (16 ∷ entriesBytes (s .entries)) ∷ (1 ∷ []) ∷ []
+
+abbrev pub joined : List (List ℕ) → List ℕ
+joined [] = []
+joined (l ∷ []) = l
+joined (l ∷ (k ∷ ls)) = l ++ joined (k ∷ ls)
+
+-- all before the sum
 unfoldable pub body : Setup → List ℕ
-body s = (1 ∷ moduleBytes s) ++ ((16 ∷ entriesBytes (s .entries)) ++ (1 ∷ []))
+body s = joined (sections s)
 
 abbrev pub total : List ℕ → ℕ
 total [] = 0

@@ -19,7 +19,7 @@ use Rattle.model.specs.declared.CommonRegister.the-variants.{OutFlags, I
 use Rattle.model.specs.State.{outFlag, inFlag, control, fbStatus, outTimer, fbTimer, outPreset, fbPreset, withServiceRecord, channelAt, putChannel}
 use Rattle.model.specs.Settings.{inA, inB}
 use Rattle.model.specs.Channel.{acknowledged}
-use Rattle.model.specs.Errors.{num, byteOf, wordOf, any, errorByte, hasHis, hasAct, chError, commonErrorBytes, serviceAcknowledged}
+use Rattle.model.specs.Errors.{bitValue, byteOf, wordOf, any, errorByte, hasHis, hasAct, chError, commonErrorBytes, serviceAcknowledged}
 use Rattle.model.specs.Registers.{Place, service, digital, common, unlisted, beyond}
 use Rattle.model.specs.Tick.{levels}
 
@@ -44,7 +44,7 @@ serviceBytes FreeRunTimer m = signedBytes 4 (m .shared .timer .0)
 serviceBytes WDTimer m = timerBytes (m .service .watchdog)
 serviceBytes ModuleConfig m = configBytes (m .shared .config)
 serviceBytes WDPreset m = timerBytes (m .shared .preset)
-serviceBytes WriteEnable m = num (m .shared .enabled) ∷ []
+serviceBytes WriteEnable m = bitValue (m .shared .enabled) ∷ []
 serviceBytes CommonError m = commonErrorBytes m
 
 unfoldable pub digitalBytes : DigitalRegister → List Bool → Channel → List ℕ
@@ -68,7 +68,7 @@ unfoldable pub commonBytes : CommonRegister → List Channel → List ℕ
 commonBytes OutFlags cs = channelWord outFlag cs
 commonBytes InFlags cs = channelWord inFlag cs
 commonBytes IOChError cs = channelWord hasHis cs ++ channelWord hasAct cs
-commonBytes CommonChError cs = chError (num (any hasHis cs)) (num (any hasAct cs))
+commonBytes CommonChError cs = chError (bitValue (any hasHis cs)) (bitValue (any hasAct cs))
 
 unfoldable pub bytesRead : Place → Module → List ℕ
 bytesRead (service r) m = serviceBytes r m
