@@ -12,7 +12,7 @@ use Rattle.model.specs.declared.Errors.{Errors}
 use Rattle.model.specs.declared.Kept.{Kept}
 use Rattle.model.specs.declared.Channel.{Channel}
 use Rattle.model.specs.declared.Shared.{Shared}
-use Rattle.model.specs.State.{withConfig, withErrors, withCounter, withKept, outFlag, inFlag, setOutFlag, setInFlag, setControl, setFBStatus, setInternalState, fbStatus, fbPreset, setFBTimer, setOutCurrent}
+use Rattle.model.specs.State.{withConfig, withErrors, withCounter, withKept, outFlag, terminal, inFlag, setOutFlag, setInFlag, setControl, setFBStatus, setInternalState, fbStatus, fbPreset, setFBTimer, setOutCurrent}
 use Rattle.model.specs.Settings.{bit, functions, notInput, isSpecial, hasReference, simulatesInput, silencesOverload}
 
 -- ---- errors: "Setting any Act bit, here or elsewhere, sets its His bit"
@@ -39,9 +39,9 @@ startFBTimer ch = setFBTimer (fbPreset ch) ch
 abbrev pub awaitFeedback : Channel → Channel
 awaitFeedback ch = setFBStatus (fbStatus ch || hasReference ch) ch
 
--- OutFlag was `was`
+-- the output was `was`
 unfoldable pub changed : Bool → Channel → Channel
-changed was ch = cond (Bool·beq was (outFlag ch)) ch (awaitFeedback (startFBTimer ch))
+changed was ch = cond (Bool·beq was (terminal ch)) ch (awaitFeedback (startFBTimer ch))
 
 -- ---- InFlag: "Each InFlag 0 to 1 adds 1 to Counter". Whatever gives InFlag a value goes through this rule
 unfoldable pub inputBecomes : Bool → Channel → Channel
@@ -68,7 +68,7 @@ tripped ch = let off = setOutFlag false (setControl false ch) in cond (silencesO
 unfoldable pub takeCurrent : Shared → Float → Channel → Channel
 takeCurrent s x ch =
     let stored = setOutCurrent x ch in
-    cond (aboveTrip s (stored .currents)) (changed (outFlag ch) (tripped stored)) stored
+    cond (aboveTrip s (stored .currents)) (changed (terminal ch) (tripped stored)) stored
 
 -- ---- FlagReg and OutFlags: "A set bit 7 on Functions 0, or a set bit 3 on 0 or $10, isn't taken (the flag stays) and sets PrgError"
 unfoldable pub takeOut : Bool → Channel → Channel
@@ -83,15 +83,15 @@ clearActs ch = withErrors (record { act = withProgram false (withOverload false 
 
 -- "then takes bits 7 and 3, and bit 6 if simulated"
 unfoldable pub flagRegWritten : ℕ → Channel → Channel
-flagRegWritten b ch = simulate (bit 6 b) (changed (outFlag ch) (takeControl (bit 3 b) (takeOut (bit 7 b) (clearActs ch))))
+flagRegWritten b ch = simulate (bit 6 b) (changed (terminal ch) (takeControl (bit 3 b) (takeOut (bit 7 b) (clearActs ch))))
 
 -- "OutFlags takes bit 7 alike, clears no Act bit, and skips the change rule for FALSE to TRUE"
 unfoldable pub outFlagsWritten : Bool → Channel → Channel
-outFlagsWritten b ch = cond (outFlag ch) (changed true (takeOut b ch)) (takeOut b ch)
+outFlagsWritten b ch = cond (terminal ch) (changed true (takeOut b ch)) (takeOut b ch)
 
 -- "Writing ChConfig clears FBStatus, Control, InternalState, then OutFlag under the new settings by the change rule"
 unfoldable pub chConfigWritten : Config → Channel → Channel
-chConfigWritten g ch = changed (outFlag ch) (setOutFlag false (setFBStatus false (setControl false (setInternalState false (withConfig g ch)))))
+chConfigWritten g ch = changed (terminal ch) (setOutFlag false (setFBStatus false (setControl false (setInternalState false (withConfig g ch)))))
 
 -- ---- kept values: "so is a write of register 2, 4 or 5 while WriteEnable is TRUE"
 abbrev pub keepCounter : Channel → Channel

@@ -9,7 +9,7 @@ use Rattle.model.specs.declared.Function.{Function}
 use Rattle.model.specs.declared.Reference.{Reference}
 use Rattle.model.specs.declared.Function.the-variants.{Input, Output, OneShot, DutyCycle, Timer}
 use Rattle.model.specs.declared.Reference.the-variants.{None, Channel as ToChannel}
-use Rattle.model.specs.State.{outFlag}
+use Rattle.model.specs.State.{outFlag, terminal}
 
 -- bit k of a number
 abbrev pub bit : ℕ → ℕ → Bool
@@ -80,10 +80,10 @@ levelOf levels (ToChannel k) = getD levels (k - 1) false
 
 -- "InA is InFlag of Ref_A, InB of Ref_B; simulated feedback gives OutFlag and its opposite, reference or not"
 unfoldable pub inA : List Bool → Channel → Bool
-inA levels ch = cond (simulatesFeedback ch) (outFlag ch) (levelOf levels (refA ch))
+inA levels ch = cond (simulatesFeedback ch) (terminal ch) (levelOf levels (refA ch))
 
 unfoldable pub inB : List Bool → Channel → Bool
-inB levels ch = cond (simulatesFeedback ch) (not (outFlag ch)) (levelOf levels (refB ch))
+inB levels ch = cond (simulatesFeedback ch) (not (terminal ch)) (levelOf levels (refB ch))
 
 -- "Output = OutFlag and Functions not 0"
 unfoldable pub output : Channel → Bool

@@ -60,6 +60,10 @@ withKept x ch = record { config = ch .config; flags = ch .flags; timers = ch .ti
 abbrev pub outFlag : Channel → Bool
 outFlag ch = ch .flags .out
 
+-- the output as the change rule, FBStatus, simulated feedback and error bits 2 and 5 see it
+abbrev pub terminal : Channel → Bool
+terminal ch = outFlag ch
+
 abbrev pub inFlag : Channel → Bool
 inFlag ch = ch .flags .input
 

@@ -18,7 +18,7 @@ use Rattle.model.specs.declared.ServiceBits.{ServiceBits}
 use Rattle.model.specs.declared.Service.{Service}
 use Rattle.model.specs.declared.Module.{Module}
 use Rattle.model.specs.declared.Function.the-variants.{Input, Output, OneShot, DutyCycle, Timer}
-use Rattle.model.specs.State.{withErrors, withOperating, outFlag, inFlag, control, fbStatus, internalState, setOutFlag, setControl, setFBStatus, setInternalState, outTimer, fbTimer, outPreset, setOutTimer, setFBTimer}
+use Rattle.model.specs.State.{withErrors, withOperating, outFlag, terminal, inFlag, control, fbStatus, internalState, setOutFlag, setControl, setFBStatus, setInternalState, outTimer, fbTimer, outPreset, setOutTimer, setFBTimer}
 use Rattle.model.specs.Settings.{isSet, functions, notInput, refA, refB, simulatesInput, enablesUnderload, inA, inB}
 use Rattle.model.specs.Channel.{changed, aboveTrip, tripped, keepCounter, keepOperating}
 
@@ -107,11 +107,11 @@ unfoldable pub overloaded : Shared → Channel → Bool
 overloaded s ch = aboveTrip s (ch .currents) || (outFlag ch && isNegative (fbTimer ch) && aboveMaximum (ch .currents))
 
 unfoldable pub guarded : Shared → Channel → Channel
-guarded s ch = cond (overloaded s ch) (changed (outFlag ch) (tripped ch)) ch
+guarded s ch = cond (overloaded s ch) (changed (terminal ch) (tripped ch)) ch
 
 -- steps 1 to 4 of a channel, "then the change rule once against the tick's start"
 unfoldable pub driven : Shared → Bool → Channel → Channel
-driven s ranOut ch = let run = timersRun (shutDown ranOut ch) in guarded s (changed (outFlag ch) (special (functions run) run))
+driven s ranOut ch = let run = timersRun (shutDown ranOut ch) in guarded s (changed (terminal ch) (special (functions run) run))
 
 -- ---- 5. "If FreeRunTimer is a multiple of 32"
 unfoldable pub lookDue : Shared → Bool
@@ -120,7 +120,7 @@ lookDue s = eqb (modulo (s .timer .0) 32) 0
 -- "FBStatus := Ref_A set and InA ≠ OutFlag, or Ref_B set and InB = OutFlag"
 unfoldable pub feedbackWrong : List Bool → Channel → Bool
 feedbackWrong levels ch =
-    (isSet (refA ch) && xor (inA levels ch) (outFlag ch)) || (isSet (refB ch) && Bool·beq (inB levels ch) (outFlag ch))
+    (isSet (refA ch) && xor (inA levels ch) (terminal ch)) || (isSet (refB ch) && Bool·beq (inB levels ch) (terminal ch))
 
 -- "the operating count gains 1 if InFlag, stopping at 4294967295"
 abbrev pub operated : Channel → Channel
@@ -146,10 +146,10 @@ unfoldable pub found : Shared → Channel → ErrorBits
 found s ch =
     record {
       overload = ch .errors .act .overload;
-      underload = belowMinimum (ch .currents) && outFlag ch && isNegative (fbTimer ch) && enablesUnderload ch;
+      underload = belowMinimum (ch .currents) && terminal ch && isNegative (fbTimer ch) && enablesUnderload ch;
       external = not (simulatesInput ch) && (inFlag ch && not (outFlag ch) && notInput (functions ch));
       internal = not (simulatesInput ch) && (not (outFlag ch) && leaks s (ch .currents));
-      disconnected = not (simulatesInput ch) && (outFlag ch && not (inFlag ch) && not (ch .errors .act .overload));
+      disconnected = not (simulatesInput ch) && (terminal ch && not (inFlag ch) && not (ch .errors .act .overload));
       feedback = isNegative (fbTimer ch) && fbStatus ch;
       program = ch .errors .act .program;
     }
