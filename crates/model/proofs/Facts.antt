@@ -1,6 +1,8 @@
--- The facts of specs/Facts.antt: by cases of the registers, by the two sides of a test, and by computation. Assumes nothing.
-use mathlib.Core.Path.{_≡_, refl, sym, _∙_, ap}
-use mathlib.Core.Bool.{Bool, true, false, cond, not, _&&_, Bool·beq, false≢true}
+-- The facts of specs/Facts.antt about the table, the sizes, wire calls and worked values: by cases of the registers, and by computation; those about one channel are in
+-- Facts/Steps. Assumes nothing.
+pub mod Steps
+use mathlib.Core.Path.{_≡_, refl, ap}
+use mathlib.Core.Bool.{false}
 use mathlib.Core.List.{List, [], _∷_, map}
 use Prim.Native.Nat.{ℕ, _+_}
 use lib.ListN.{length}
@@ -8,26 +10,19 @@ use lib.Ieee.{ofBits, toBits, ofInt, lt, le}
 use Rattle.integers.specs.Bytes as Bytes
 use Rattle.integers.specs.Integers as Integers
 use Rattle.numbers.specs.Reals as Reals
-use Rattle.counts.specs.Counts.{isPositive}
-use Rattle.model.specs.declared.Function.{Function}
 use Rattle.model.specs.declared.Channel.{Channel}
-use Rattle.model.specs.declared.Shared.{Shared}
 use Rattle.model.specs.declared.Service.{Service}
 use Rattle.model.specs.declared.Module.{Module}
-use Rattle.model.specs.declared.Refusal.{Refusal}
 use Rattle.model.specs.declared.Reply.{Reply}
 use Rattle.model.specs.declared.ServiceRegister.{ServiceRegister}
 use Rattle.model.specs.declared.DigitalRegister.{DigitalRegister}
 use Rattle.model.specs.declared.CommonRegister.{CommonRegister}
-use Rattle.model.specs.declared.Function.the-variants.{Input, Output, OneShot, DutyCycle, Timer}
 use Rattle.model.specs.declared.Reply.the-variants.{Done, Refused}
 use Rattle.model.specs.declared.ServiceRegister.the-variants.{Highest, Reset, FreeRunTimer, WDTimer, ModuleConfig, WDPreset, WriteEnable, CommonError}
 use Rattle.model.specs.declared.DigitalRegister.the-variants.{FlagReg, OutTimer, Counter, OutCurrent, OperatingTime, UserBytes, FBTimer, FBPreset, OutPreset, ChConfig, MinCurrent, MaxCurrent, UserReals, Maintenance, ChError}
 use Rattle.model.specs.declared.CommonRegister.the-variants.{OutFlags, InFlags, IOChError, ChError as CommonChError}
-use Rattle.model.specs.State.{outFlag, control, internalState, outTimer, setOutFlag, channelAt}
+use Rattle.model.specs.State.{channelAt}
 use Rattle.model.specs.Settings as Settings
-use Rattle.model.specs.Settings.{functions}
-use Rattle.model.specs.Channel as Rules
 use Rattle.model.specs.Errors as Errors
 use Rattle.model.specs.Registers.{Place, service, digital, common, unlisted, beyond, serviceRow, digitalRow, commonRow, place, size}
 use Rattle.model.specs.Reads as Reads
@@ -36,9 +31,8 @@ use Rattle.model.specs.Tick as Tick
 use Rattle.model.specs.Image as Image
 use Rattle.model.specs.Writes as Writes
 use Rattle.model.specs.Questions as Questions
-use Rattle.model.specs.Calls.{Request, read, write, step, cleared, preset, writtenAs}
-use Rattle.model.specs.Facts.{Found, Sized, restarted, Wired, Ruled, Worked}
-use Rattle.model.proofs.Laws.Tests.{either, by-test, both}
+use Rattle.model.specs.Calls.{read, write, step, cleared, preset, writtenAs}
+use Rattle.model.specs.Facts.{Found, Sized, restarted, Wired, Worked}
 
 -- ---- the table
 find-service : (r : ServiceRegister) → place (serviceRow r .number) ≡ service r
@@ -188,76 +182,6 @@ reset m = λ i. record { shared = restarted m .shared; service = restarted m .se
 
 pub wired : Wired
 wired = record { preset-by-read = preset-by-read; preset-by-write = preset-by-write; cleared-by-write = cleared-by-write; reset = reset }
-
--- ---- a channel's rules
-take-out-timers : (b : Bool) (ch : Channel) → Rules.takeOut b ch .timers ≡ ch .timers
-unfolding Rules.takeOut
-take-out-timers b ch = either (λ (x : Channel). x .timers ≡ ch .timers) (b && not (Settings.notInput (functions ch))) refl refl
-
-rise-by-out-flags : (ch : Channel) → outFlag ch ≡ false → Rules.outFlagsWritten true ch .timers ≡ ch .timers
-unfolding Rules.outFlagsWritten
-rise-by-out-flags ch e =
-    let taken = Rules.takeOut true ch in
-    ap (λ (b : Bool). cond b (Rules.changed true taken) taken .timers) e ∙ take-out-timers true ch
-
--- OutFlag and Control are both FALSE
-abbrev Off : Channel → Type 0
-Off ch = (outFlag ch ≡ false) × (control ch ≡ false)
-
-off-changed : (was : Bool) (ch : Channel) → Off ch → Off (Rules.changed was ch)
-unfolding Rules.changed
-off-changed was ch h = either Off (Bool·beq was (outFlag ch)) h h
-
-off-tripped : (ch : Channel) → Off (Rules.tripped ch)
-unfolding Rules.tripped
-off-tripped ch = either Off (Settings.silencesOverload ch) (refl, refl) (refl, refl)
-
-off-dropped : (ch : Channel) → Off ch → Off (Tick.dropped ch)
-off-dropped ch h = either Off (Tick.fell ch) (refl, h .1) h
-
--- without Control neither sets OutFlag
-off-timed : (ch : Channel) → Off ch → Off (Tick.timed ch)
-off-timed ch h = by-test Off (control ch) (λ e. absurd (false≢true (sym (h .1) ∙ e))) (λ e. h)
-
-off-turned : (ch : Channel) → Off ch → Off (Tick.turned ch)
-off-turned ch h = by-test Off (control ch && not (isPositive (outTimer ch))) (λ e. absurd (false≢true (sym (h .1) ∙ both (control ch) (not (isPositive (outTimer ch))) e .0))) (λ e. h)
-
--- and there is no positive edge
-no-rise : (ch : Channel) → Off ch → Tick.rose ch ≡ false
-no-rise ch h = go (internalState ch) (control ch) (h .1)
-  where
-    go : (a b : Bool) → b ≡ false → not a && b ≡ false
-    go true b e = refl
-    go false b e = e
-
-off-begun : (x ch : Channel) → Off ch → Off (cond (Tick.rose ch) x ch)
-off-begun x ch h = by-test Off (Tick.rose ch) (λ e. absurd (false≢true (sym (no-rise ch h) ∙ e))) (λ e. h)
-
-off-special : (f : Function) (ch : Channel) → Off ch → Off (Tick.special f ch)
-unfolding Tick.oneShot Tick.dutyCycle Tick.timerOutput
-off-special Input ch h = h
-off-special Output ch h = h
-off-special OneShot ch h =
-    let x = cond (Tick.rose ch) (Tick.reload ch) ch in
-    off-timed (Tick.seen (Tick.dropped x)) (off-dropped x (off-begun (Tick.reload ch) ch h))
-off-special DutyCycle ch h =
-    let x = cond (Tick.rose ch) (setOutFlag true (Tick.reload ch)) ch in
-    off-turned (Tick.seen (Tick.dropped x)) (off-dropped x (off-begun (setOutFlag true (Tick.reload ch)) ch h))
-off-special Timer ch h = off-timed (Tick.seen (Tick.dropped ch)) (off-dropped ch h)
-
-off-guarded : (s : Shared) (ch : Channel) → Off ch → Off (Tick.guarded s ch)
-unfolding Tick.guarded
-off-guarded s ch h = either Off (Tick.overloaded s ch) (off-changed (outFlag ch) (Rules.tripped ch) (off-tripped ch)) h
-
-off-driven : (s : Shared) (ch : Channel) → Off (Tick.driven s true ch)
-unfolding Tick.driven Tick.timersRun Tick.shutDown
-off-driven s ch =
-    let run = Tick.timersRun (Tick.shutDown true ch) in
-    let ran = Tick.special (functions run) run in
-    off-guarded s (Rules.changed (outFlag ch) ran) (off-changed (outFlag ch) ran (off-special (functions run) run (refl, refl)))
-
-pub ruled : Ruled
-ruled = record { rise-by-out-flags = rise-by-out-flags; shut-out = λ s ch. off-driven s ch .0; shut-control = λ s ch. off-driven s ch .1 }
 
 -- ---- worked values
 pub worked : Worked

@@ -1,6 +1,6 @@
 -- Facts that pin the rules where no other claim does. The proofs are in proofs/Facts.antt.
 use mathlib.Core.Path.{_≡_}
-use mathlib.Core.Bool.{Bool, true, false}
+use mathlib.Core.Bool.{Bool, true, false, not}
 use mathlib.Core.List.{List, [], _∷_, map}
 use Prim.Native.Nat.{ℕ, _+_}
 use lib.IntN.{ℤ, pos, negℤ}
@@ -8,7 +8,11 @@ use lib.ListN.{length, set}
 use lib.Ieee.{Float, binary32, ofBits}
 use Rattle.counts.specs.Counts.{timer}
 use Rattle.model.specs.declared.Config.{Config}
+use Rattle.model.specs.declared.Flags.{Flags}
+use Rattle.model.specs.declared.Timers.{Timers}
 use Rattle.model.specs.declared.Currents.{Currents}
+use Rattle.model.specs.declared.ErrorBits.{ErrorBits}
+use Rattle.model.specs.declared.Errors.{Errors}
 use Rattle.model.specs.declared.Channel.{Channel}
 use Rattle.model.specs.declared.Shared.{Shared}
 use Rattle.model.specs.declared.Service.{Service}
@@ -16,14 +20,15 @@ use Rattle.model.specs.declared.Module.{Module}
 use Rattle.model.specs.declared.ServiceRegister.{ServiceRegister}
 use Rattle.model.specs.declared.DigitalRegister.{DigitalRegister}
 use Rattle.model.specs.declared.CommonRegister.{CommonRegister}
-use Rattle.model.specs.State.{outFlag, control, fbStatus, channelAt, setOutFlag, setInFlag, setControl}
+use Rattle.model.specs.State.{withConfig, withFlags, withTimers, withCurrents, withErrors, outFlag, control, fbStatus, internalState, fbTimer, fbPreset, channelAt, setOutFlag, setInFlag, setControl}
+use Rattle.model.specs.Settings.{functions, notInput, isSpecial, hasReference}
 use Rattle.model.specs.Channel as Rules
 use Rattle.model.specs.Channel.{aboveTrip, setOverload, outFlagsWritten}
 use Rattle.model.specs.Errors.{hasHis, hasAct, comBytes}
 use Rattle.model.specs.Registers.{Place, service, digital, common, serviceRow, digitalRow, commonRow, place, size}
 use Rattle.model.specs.Reads.{bytesRead, flagReg, channelWord}
-use Rattle.model.specs.Tick.{saveDue, leaks, driven, reviewed}
-use Rattle.model.specs.Image.{Entry, Setup, entryOf, setupOf, entryBytes, restored, restoredShared, noServiceBits, externalReset, started, zeroSetup}
+use Rattle.model.specs.Tick.{saveDue, leaks, driven, found}
+use Rattle.model.specs.Image.{Entry, Setup, entryOf, setupOf, entryFrom, entryBytes, restored, restoredShared, noServiceBits, externalReset, started, zeroSetup}
 use Rattle.model.specs.Calls.{Request, read, write, step}
 
 -- each register is found at its own number, in the first digital channel and the last too
@@ -64,12 +69,64 @@ pub record Ruled : Type 0 where
   pub shut-out : (s : Shared) (ch : Channel) → outFlag (driven s true ch) ≡ false
   pub shut-control : (s : Shared) (ch : Channel) → control (driven s true ch) ≡ false
 
+-- the rules of OutFlag, Control and ChConfig
+pub record Written : Type 0 where
+  -- the change rule: FBTimer := FBPreset where OutFlag has changed, and FBStatus TRUE with a reference
+  pub timer-restarts : (ch : Channel) → fbTimer (Rules.changed (not (outFlag ch)) ch) ≡ fbPreset ch
+  pub status-with-reference : (ch : Channel) → hasReference ch ≡ true → fbStatus (Rules.changed (not (outFlag ch)) ch) ≡ true
+  pub status-without : (ch : Channel) → hasReference ch ≡ false → fbStatus (Rules.changed (not (outFlag ch)) ch) ≡ fbStatus ch
+  pub no-change : (ch : Channel) → Rules.changed (outFlag ch) ch ≡ ch
+  -- ChConfig leaves the settings that were written, and OutFlag, Control and InternalState cleared
+  pub settings : (g : Config) (ch : Channel) → Rules.chConfigWritten g ch .config ≡ g
+  pub off : (g : Config) (ch : Channel) → outFlag (Rules.chConfigWritten g ch) ≡ false
+  pub control-off : (g : Config) (ch : Channel) → control (Rules.chConfigWritten g ch) ≡ false
+  pub state-off : (g : Config) (ch : Channel) → internalState (Rules.chConfigWritten g ch) ≡ false
+  -- a set bit that is not taken leaves the flag and sets PrgError
+  pub out-not-taken : (ch : Channel) → notInput (functions ch) ≡ false → Rules.takeOut true ch ≡ Rules.setPrgError ch
+  pub control-not-taken : (ch : Channel) → isSpecial (functions ch) ≡ false → Rules.takeControl true ch ≡ Rules.setPrgError ch
+
+-- a shared record all zero, but for the ticks since the last save
+abbrev pub someShared : ℕ → Shared
+someShared saving = record { timer = timer (pos 0); config = record { enable = 0; function = 0; a = 0; b = 0 }; preset = timer (pos 0); enabled = false; saving = saving }
+
+-- what step 6 finds of a channel with these: Enablebit, Functions, FBTimer, OutFlag, InFlag, FBStatus, the overload Act and OutCurrent; MinCurrent is 0.5 A
+abbrev pub findsOf : ℕ → ℕ → ℤ → Bool → Bool → Bool → Bool → ℕ → ErrorBits
+findsOf enable function time out input status overload word =
+    let bits : ErrorBits = record { overload = overload; underload = false; external = false; internal = false; disconnected = false; feedback = false; program = false } in
+    let ch = restored (entryFrom []) in
+    found (someShared 0)
+    (withConfig (record { enable = enable; function = function; a = 0; b = 0 })
+    (withFlags (record { out = out; input = input; control = false; feedback = status; internal = false })
+    (withTimers (record { out = timer (pos 0); feedback = timer time })
+    (withCurrents (record { out = ofBits binary32 word; min = ofBits binary32 0x3F00_0000; max = ofBits binary32 0x3F80_0000 })
+    (withErrors (record { act = bits; his = bits }) ch)))))
+
+pub record Judged : Type 0 where
+  -- 5: below MinCurrent, with OutFlag, FBTimer below 0 and Enablebit 5
+  pub underload : findsOf 0x20 0x10 (negℤ (pos 8)) true true false false 0 .underload ≡ true
+  pub underload-early : findsOf 0x20 0x10 (pos 0) true true false false 0 .underload ≡ false
+  pub underload-silent : findsOf 0x40 0x10 (negℤ (pos 8)) true true false false 0 .underload ≡ false
+  pub underload-off : findsOf 0x20 0x10 (negℤ (pos 8)) false true false false 0 .underload ≡ false
+  pub underload-at-minimum : findsOf 0x20 0x10 (negℤ (pos 8)) true true false false 0x3F00_0000 .underload ≡ false
+  -- 4: InFlag, not OutFlag, Functions not 0
+  pub external : findsOf 0 0x10 (pos 0) false true false false 0 .external ≡ true
+  pub external-input : findsOf 0 0 (pos 0) false true false false 0 .external ≡ false
+  pub external-simulated : findsOf 1 0x10 (pos 0) false true false false 0 .external ≡ false
+  -- 3: not OutFlag, OutCurrent above the leak limit
+  pub internal : findsOf 0 0 (pos 0) false false false false 0x3DCC_CCCE .internal ≡ true
+  pub internal-on : findsOf 0 0x10 (pos 0) true false false false 0x3DCC_CCCE .internal ≡ false
+  pub internal-simulated : findsOf 1 0 (pos 0) false false false false 0x3DCC_CCCE .internal ≡ false
+  -- 2: OutFlag, not InFlag, no overload Act
+  pub disconnected : findsOf 0 0x10 (pos 0) true false false false 0 .disconnected ≡ true
+  pub disconnected-overload : findsOf 0 0x10 (pos 0) true false false true 0 .disconnected ≡ false
+  pub disconnected-simulated : findsOf 1 0x10 (pos 0) true false false false 0 .disconnected ≡ false
+  -- 1: FBTimer below 0 and FBStatus, simulated input or not
+  pub feedback : findsOf 1 0 (negℤ (pos 1)) false false true false 0 .feedback ≡ true
+  pub feedback-early : findsOf 0 0 (pos 0) false false true false 0 .feedback ≡ false
+
 -- worked values
 abbrev pub currentOf : ℕ → Currents
 currentOf word = record { out = ofBits binary32 word; min = ofBits binary32 0; max = ofBits binary32 0 }
-
-abbrev pub someShared : ℕ → Shared
-someShared saving = record { timer = timer (pos 0); config = record { enable = 0; function = 0; a = 0; b = 0 }; preset = timer (pos 0); enabled = false; saving = saving }
 
 -- an overload on channel 9 of a box just powered up
 abbrev pub overloadOn9 : List Channel
