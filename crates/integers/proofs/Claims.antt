@@ -8,7 +8,7 @@ use lib.IntN.{ℤ}
 use lib.ListN.{length}
 use lib.Pow.{areBytes, pow-add, pow-pos}
 use mir.Syntax.{Width}
-use mir.Val.{SFits, Fits, toZ, ofZ, bits}
+use mir.Val.{SFits, Fits, toZ, bits}
 use mir.ValLaws.{toZ-ofZ, ofZ-toZ, toZ-fits}
 use Rattle.integers.specs.Integers.{modulo, signedBits, wrapped}
 use Rattle.integers.specs.Bytes.{number, bytesOf, signedNumber, signedBytes}

@@ -2,34 +2,32 @@
 -- (`follow`). Each call of the list keeps the two boxes alike for c: a call for a stranger moves the first box only, and any other call moves both. What follows from
 -- the struck list and the marks alone is the same for two lists that have those in common. Assumes nothing.
 use mathlib.Core.Path.{_≡_, refl, sym, _∙_, ap, subst}
-use mathlib.Core.Bool.{Bool, true, false, cond, not, _&&_, _||_, false≢true}
-use mathlib.Core.List.{List, [], _∷_, _++_, map}
-use Prim.Native.Nat.{ℕ, zero, suc, _+_, _-_, _*_, _/_, _≤_, _<_}
+use mathlib.Core.Bool.{Bool, true, false, cond, _&&_, _||_}
+use mathlib.Core.List.{List, [], _∷_, _++_}
+use Prim.Native.Nat.{ℕ, _+_, _-_, _*_, _/_, _≤_}
 use native.Mathlib.Omega.{arith}
-use lib.Dec.{T, eqb}
+use lib.Dec.{eqb}
 use lib.ListN.{length, getD}
 use borrow.Author.Tests.{eqb-true, eq-eqb, ne-eqb}
 use Rattle.counts.specs.Counts.{watchdogTick}
 use Rattle.model.specs.declared.Channel.{Channel}
 use Rattle.model.specs.declared.Shared.{Shared}
 use Rattle.model.specs.declared.Module.{Module}
-use Rattle.model.specs.declared.Refusal.{Refusal}
 use Rattle.model.specs.declared.Reply.{Reply}
 use Rattle.model.specs.declared.Reply.the-variants.{Done, Refused}
 use Rattle.model.specs.State.{nothing, channelAt}
 use Rattle.model.specs.Settings.{output}
-use Rattle.model.specs.Registers.{Place, place}
+use Rattle.model.specs.Registers.{place}
 use Rattle.model.specs.Channel as Rules
 use Rattle.model.specs.Tick as Tick
 use Rattle.model.specs.Reads as Reads
-use Rattle.model.specs.Writes as Writes
 use Rattle.model.specs.Image as Image
-use Rattle.model.specs.Image.{Entry, entryOf}
+use Rattle.model.specs.Image.{entryOf}
 use Rattle.model.specs.Questions as Questions
-use Rattle.model.specs.Calls.{Request, read, write, level, current, tick, Answer, Stepped, step, run, cleared, preset, readAs, writtenAs, sampledAs, powerUp, startedAs}
-use Rattle.model.specs.TwoLists.{ownerOf, isFor, names, accepted, namesBy, named, allNamed, stranger, struck, marks, Compared, compared, own, SameEnd, Same, LearnsNothing, TwoLists}
+use Rattle.model.specs.Calls.{Request, read, write, level, current, tick, step, run, cleared, preset, readAs, writtenAs, sampledAs, powerUp, startedAs}
+use Rattle.model.specs.TwoLists.{ownerOf, isFor, names, accepted, namesBy, named, allNamed, stranger, struck, marks, Compared, compared, own, SameEnd, LearnsNothing, TwoLists}
 use Rattle.model.proofs.Laws.Inputs.{Inputs, inputs, taken, sensed, in-level, in-current}
-use Rattle.model.proofs.Laws.Alike.{Within, within-append, within-self, stranger-facts, Held, Near, Channels, Alike, held-taken, written-alike, read-alike, put-alike, value-alike, tick-alike, put-stranger, written-stranger, read-stranger}
+use Rattle.model.proofs.Laws.Alike.{Within, within-append, within-self, stranger-facts, Held, Alike, held-taken, written-alike, read-alike, put-alike, value-alike, tick-alike, put-stranger, written-stranger, read-stranger}
 
 abbrev NotTick : Request → Type 0
 NotTick (read n lent) = Unit {0}

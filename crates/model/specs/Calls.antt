@@ -1,15 +1,11 @@
 -- Document 01, "Calls": what each call answers and leaves, for any box, call and buffer; a list of calls; power-up and storing. Definitions only.
-use mathlib.Core.Bool.{Bool, true, false}
+use mathlib.Core.Bool.{Bool, false}
 use mathlib.Core.List.{List, [], _∷_, _++_}
 use Prim.Native.Nat.{ℕ}
 use lib.ListN.{length, drop}
 use lib.Ieee.{Float}
 use Rattle.model.specs.declared.Channel.{Channel}
-use Rattle.model.specs.declared.Shared.{Shared}
-use Rattle.model.specs.declared.ServiceBits.{ServiceBits}
-use Rattle.model.specs.declared.Service.{Service}
 use Rattle.model.specs.declared.Module.{Module}
-use Rattle.model.specs.declared.Refusal.{Refusal}
 use Rattle.model.specs.declared.Reply.{Reply}
 use Rattle.model.specs.declared.Reply.the-variants.{Done, Refused}
 use Rattle.model.specs.State.{withServiceRecord, channelAt, putChannel}
@@ -19,7 +15,7 @@ use Rattle.model.specs.Registers.{Place, place}
 use Rattle.model.specs.Reads.{bytesRead, afterRead}
 use Rattle.model.specs.Writes.{written}
 use Rattle.model.specs.Tick.{withWatchdog, ticked}
-use Rattle.model.specs.Image.{Setup, setupOf, encode, decode, started, zeroSetup}
+use Rattle.model.specs.Image.{setupOf, encode, decode, started, zeroSetup}
 use Rattle.model.specs.Questions.{readReply, writeReply, levelReply, currentReply, powerUpReply, storeReply}
 
 -- "A call is one of: a wire read, a wire write, a level, a current in amperes, or a tick", with all that it carries

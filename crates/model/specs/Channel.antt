@@ -1,18 +1,15 @@
 -- Document 01, "A channel": what a level, a current and each write do to one channel. Definitions only.
 use mathlib.Core.Bool.{Bool, true, false, not, cond, _&&_, _||_, Bool·beq}
-use mathlib.Core.List.{List}
 use Prim.Native.Nat.{ℕ}
-use lib.IntN.{ℤ, pos}
+use lib.IntN.{pos}
 use lib.Ieee.{Float, binary32, ofInt, lt}
 use Rattle.counts.specs.Counts.{counterStep}
 use Rattle.model.specs.declared.Config.{Config}
 use Rattle.model.specs.declared.Currents.{Currents}
 use Rattle.model.specs.declared.ErrorBits.{ErrorBits}
-use Rattle.model.specs.declared.Errors.{Errors}
-use Rattle.model.specs.declared.Kept.{Kept}
 use Rattle.model.specs.declared.Channel.{Channel}
 use Rattle.model.specs.declared.Shared.{Shared}
-use Rattle.model.specs.State.{withConfig, withErrors, withCounter, withKept, outFlag, terminal, inFlag, setOutFlag, setInFlag, setControl, setFBStatus, setInternalState, fbStatus, fbPreset, setFBTimer, setOutCurrent}
+use Rattle.model.specs.State.{withConfig, withErrors, withCounter, withKept, terminal, inFlag, setOutFlag, setInFlag, setControl, setFBStatus, setInternalState, fbStatus, fbPreset, setFBTimer, setOutCurrent}
 use Rattle.model.specs.Settings.{bit, functions, notInput, isSpecial, hasReference, simulatesInput, silencesOverload}
 
 -- ---- errors: "Setting any Act bit, here or elsewhere, sets its His bit"

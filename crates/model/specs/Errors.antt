@@ -1,5 +1,5 @@
 -- Document 01, "Registers", on errors: ChError, CommonError, IOChError and the bits that are worked out. Definitions only.
-use mathlib.Core.Bool.{Bool, true, false, not, _||_}
+use mathlib.Core.Bool.{Bool, true, false, _||_}
 use mathlib.Core.List.{List, [], _∷_, _++_, map, reverse}
 use Prim.Native.Nat.{ℕ, _+_, _*_, _^_}
 use lib.ListN.{length}

@@ -1,25 +1,21 @@
 -- An example that meets every hypothesis of `TwoLists`, so that the claim is not an empty one: c is channel 1, the image names channel 2 as its Ref_A, an accepted write of
 -- ChConfig names channel 4 as its Ref_B too, and channel 3 is a stranger. proofs/Example.antt computes each fact.
 use mathlib.Core.Path.{_≡_}
-use mathlib.Core.Bool.{Bool, true, false}
+use mathlib.Core.Bool.{true, false}
 use mathlib.Core.List.{List, [], _∷_, _++_}
 use Prim.Native.Nat.{ℕ}
 use lib.IntN.{pos}
 use lib.ListN.{replicate}
 use lib.Ieee.{binary32, ofInt}
 use Rattle.counts.specs.Counts.{timer}
-use Rattle.model.specs.declared.Config.{Config}
-use Rattle.model.specs.declared.Channel.{Channel}
 use Rattle.model.specs.declared.Module.{Module}
-use Rattle.model.specs.declared.Refusal.{Refusal}
-use Rattle.model.specs.declared.Reply.{Reply}
-use Rattle.model.specs.declared.Reply.the-variants.{Done, Refused}
+use Rattle.model.specs.declared.Reply.the-variants.{Done}
 use Rattle.model.specs.State.{channelAt, inFlag}
 use Rattle.model.specs.Settings.{output}
 use Rattle.model.specs.Image.{Entry, Setup, entrySize, entryFrom, encode}
-use Rattle.model.specs.Questions.{numberOf, powerUpReply}
-use Rattle.model.specs.Calls.{Request, read, write, level, current, tick, step, run, powerUp}
-use Rattle.model.specs.TwoLists.{allNamed, struck, marks, own, Compared}
+use Rattle.model.specs.Questions.{powerUpReply}
+use Rattle.model.specs.Calls.{Request, read, write, level, current, tick, run, powerUp}
+use Rattle.model.specs.TwoLists.{allNamed, struck, marks}
 
 -- settings of a channel: an output with this Ref_A and a MaxCurrent of 1, all else zero
 abbrev pub outputWith : ℕ → Entry

@@ -5,17 +5,13 @@ use mathlib.Core.List.{List, [], _∷_, map}
 use Prim.Native.Nat.{ℕ, _+_}
 use lib.IntN.{ℤ, pos, negℤ}
 use lib.ListN.{length, set}
-use lib.Ieee.{Float, binary32, ofBits}
+use lib.Ieee.{binary32, ofBits}
 use Rattle.counts.specs.Counts.{timer}
 use Rattle.model.specs.declared.Config.{Config}
-use Rattle.model.specs.declared.Flags.{Flags}
-use Rattle.model.specs.declared.Timers.{Timers}
 use Rattle.model.specs.declared.Currents.{Currents}
 use Rattle.model.specs.declared.ErrorBits.{ErrorBits}
-use Rattle.model.specs.declared.Errors.{Errors}
 use Rattle.model.specs.declared.Channel.{Channel}
 use Rattle.model.specs.declared.Shared.{Shared}
-use Rattle.model.specs.declared.Service.{Service}
 use Rattle.model.specs.declared.Module.{Module}
 use Rattle.model.specs.declared.ServiceRegister.{ServiceRegister}
 use Rattle.model.specs.declared.DigitalRegister.{DigitalRegister}
@@ -24,12 +20,12 @@ use Rattle.model.specs.State.{withConfig, withFlags, withTimers, withCur
 use Rattle.model.specs.Settings.{functions, notInput, isSpecial, hasReference}
 use Rattle.model.specs.Channel as Rules
 use Rattle.model.specs.Channel.{aboveTrip, setOverload, outFlagsWritten}
-use Rattle.model.specs.Errors.{hasHis, hasAct, comBytes}
-use Rattle.model.specs.Registers.{Place, service, digital, common, serviceRow, digitalRow, commonRow, place, size}
+use Rattle.model.specs.Errors.{hasHis, comBytes}
+use Rattle.model.specs.Registers.{service, digital, common, serviceRow, digitalRow, commonRow, place, size}
 use Rattle.model.specs.Reads.{bytesRead, flagReg, channelWord}
 use Rattle.model.specs.Tick.{saveDue, leaks, driven, found}
-use Rattle.model.specs.Image.{Entry, Setup, entryOf, setupOf, entryFrom, entryBytes, restored, restoredShared, noServiceBits, externalReset, started, zeroSetup}
-use Rattle.model.specs.Calls.{Request, read, write, step}
+use Rattle.model.specs.Image.{Entry, setupOf, entryFrom, entryBytes, restored, restoredShared, noServiceBits, externalReset, started, zeroSetup}
+use Rattle.model.specs.Calls.{read, write, step}
 
 -- each register is found at its own number, in the first digital channel and the last too
 pub record Found : Type 0 where

@@ -1,5 +1,5 @@
 -- Document 01, "Setup image and reset": the kept values, the image's bytes, and what power-up makes of them; a reset is in Writes, storing in Calls. Definitions only.
-use mathlib.Core.Bool.{Bool, true, false, cond, _&&_, _||_}
+use mathlib.Core.Bool.{Bool, true, false, _&&_, _||_}
 use mathlib.Core.List.{List, [], _∷_, _++_, map}
 use Prim.Native.Nat.{ℕ, zero, suc, _+_, _*_, _%_}
 use lib.Dec.{eqb, leb, ltb}
@@ -13,11 +13,9 @@ use Rattle.counts.specs.Counts.{timer}
 use Rattle.numbers.specs.Reals.{realFrom, realBytes}
 use Rattle.numbers.specs.Written.{limitAllowed}
 use Rattle.model.specs.declared.Config.{Config}
-use Rattle.model.specs.declared.Kept.{Kept}
 use Rattle.model.specs.declared.Channel.{Channel}
 use Rattle.model.specs.declared.Shared.{Shared}
 use Rattle.model.specs.declared.ServiceBits.{ServiceBits}
-use Rattle.model.specs.declared.Service.{Service}
 use Rattle.model.specs.declared.Module.{Module}
 use Rattle.model.specs.State.{noBits}
 use Rattle.model.specs.Reads.{configBytes}

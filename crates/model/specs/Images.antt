@@ -7,8 +7,6 @@ use lib.Dec.{T}
 use lib.ListN.{drop}
 use lib.Pow.{areBytes}
 use lib.Ieee.{binary32, fits}
-use Rattle.model.specs.declared.Module.{Module}
-use Rattle.model.specs.declared.Reply.{Reply}
 use Rattle.model.specs.declared.Reply.the-variants.{Done}
 use Rattle.model.specs.Image.{setupOf, encode}
 use Rattle.model.specs.Questions.{powerUpReply, storeReply}

@@ -1,5 +1,5 @@
 -- Document 01, "Questions in order": each question, the first whose answer is no, and the number and values of every answer. Definitions only.
-use mathlib.Core.Bool.{Bool, true, false, not, cond, _&&_, _||_}
+use mathlib.Core.Bool.{Bool, true, false, not, cond, _||_}
 use mathlib.Core.List.{List, [], _∷_}
 use Prim.Native.Nat.{ℕ}
 use lib.Dec.{eqb, leb}

@@ -1,8 +1,8 @@
 -- Document 01, "Registers": the bytes that each register gives when it is read, and what reading leaves. Definitions only.
-use mathlib.Core.Bool.{Bool, true, false, cond}
+use mathlib.Core.Bool.{Bool, false}
 use mathlib.Core.List.{List, [], _∷_, _++_, map}
 use Prim.Native.Nat.{ℕ}
-use lib.IntN.{ℤ, pos}
+use lib.IntN.{pos}
 use Rattle.integers.specs.Bytes.{bytesOf, signedBytes}
 use Rattle.counts.specs.declared.TimerCount.{TimerCount}
 use Rattle.counts.specs.Counts.{timerUnits, operatingUnits}

@@ -1,17 +1,14 @@
 -- Demand 1: "Refused first", "Each gets its own number, leaves the lent buffer untouched and leaves the box as document 01 fixes." The proof is in proofs/Refusals.antt.
 use mathlib.Core.Path.{_≡_}
-use mathlib.Core.Bool.{Bool, true, false}
+use mathlib.Core.Bool.{true, false}
 use mathlib.Core.List.{List, [], _∷_, _++_}
 use Prim.Native.Nat.{ℕ}
-use lib.ListN.{length}
 use Rattle.model.specs.declared.Module.{Module}
 use Rattle.model.specs.declared.Refusal.{Refusal}
-use Rattle.model.specs.declared.Reply.{Reply}
 use Rattle.model.specs.declared.Reply.the-variants.{Done, Refused}
-use Rattle.model.specs.Errors.{dataError, generalError}
 use Rattle.model.specs.Image.{started, zeroSetup}
 use Rattle.model.specs.Questions.{Question, asked, refusalNumber, numberOf, powerUpReply, storeReply}
-use Rattle.model.specs.Calls.{Request, read, write, level, current, tick, Answer, Stepped, step, wireAnswer, plainAnswer, cleared, preset, powerUp, stored}
+use Rattle.model.specs.Calls.{Request, read, write, level, current, tick, Stepped, step, wireAnswer, plainAnswer, cleared, preset, powerUp, stored}
 
 -- what a refused call leaves and answers: a wire call only its clearing and its preset, with the bits as they stand after the clearing; a sample nothing
 abbrev pub refusedAs : Module → Request → Refusal → Stepped

@@ -1,6 +1,6 @@
 -- Document 01, "Slips at the well head": for each, a fact that rules it out. The proof is in proofs/Slips.antt.
 use mathlib.Core.Path.{_≡_}
-use mathlib.Core.Bool.{Bool, true, false}
+use mathlib.Core.Bool.{Bool, true}
 use mathlib.Core.List.{List}
 use Prim.Native.Nat.{ℕ, _+_, _<_}
 use lib.Ieee.{Float}

@@ -1,5 +1,5 @@
 -- The state's words: the manual's names for what a channel and the box hold, and each group of a channel put anew. Definitions only.
-use mathlib.Core.Bool.{Bool, true, false}
+use mathlib.Core.Bool.{Bool, false}
 use mathlib.Core.List.{List, []}
 use Prim.Native.Nat.{ℕ, _-_}
 use lib.IntN.{ℤ, pos}
@@ -15,7 +15,6 @@ use Rattle.model.specs.declared.ErrorBits.{ErrorBits}
 use Rattle.model.specs.declared.Errors.{Errors}
 use Rattle.model.specs.declared.Kept.{Kept}
 use Rattle.model.specs.declared.Channel.{Channel}
-use Rattle.model.specs.declared.Shared.{Shared}
 use Rattle.model.specs.declared.Service.{Service}
 use Rattle.model.specs.declared.Module.{Module}
 

@@ -1,18 +1,17 @@
 -- Document 01, "The proved table", all rows as one fact about the rules; rows 6 and 8 to 11 through calls on a whole box. The proof is in proofs/Table.antt.
 use mathlib.Core.Path.{_≡_}
 use mathlib.Core.Bool.{Bool, true, false}
-use mathlib.Core.List.{List, [], _∷_, _++_}
+use mathlib.Core.List.{List, [], _∷_}
 use Prim.Native.Nat.{ℕ, zero, suc}
-use lib.IntN.{ℤ, pos, negℤ}
+use lib.IntN.{pos, negℤ}
 use lib.ListN.{replicate}
 use Rattle.counts.specs.Counts.{timer}
 use Rattle.numbers.specs.Table as Numbers
-use Rattle.model.specs.declared.Config.{Config}
 use Rattle.model.specs.declared.Channel.{Channel}
 use Rattle.model.specs.declared.Module.{Module}
 use Rattle.model.specs.State.{channelAt, outTimer, fbTimer}
 use Rattle.model.specs.Settings.{output}
-use Rattle.model.specs.Image.{Entry, Setup, entrySize, entryFrom, started, realZero}
+use Rattle.model.specs.Image.{Entry, entrySize, entryFrom, started, realZero}
 use Rattle.model.specs.Questions.{numberOf}
 use Rattle.model.specs.Calls.{Request, write, tick, step, run}
 

@@ -1,7 +1,7 @@
 -- Document 01, "A tick (1/32 s)", steps 1 to 7, and the manual's precise descriptions of the special functions. Definitions only.
 use mathlib.Core.Bool.{Bool, true, false, not, cond, _&&_, _||_, xor, Bool·beq}
 use mathlib.Core.List.{List, map}
-use Prim.Native.Nat.{ℕ, _+_}
+use Prim.Native.Nat.{_+_}
 use lib.Dec.{eqb, leb}
 use lib.Ieee.{Float, binary32, ofBits, lt}
 use Rattle.integers.specs.Integers.{modulo}
@@ -10,8 +10,6 @@ use Rattle.counts.specs.Counts.{freeRunTick, watchdogTick, outTimerTick, feedba
 use Rattle.model.specs.declared.Function.{Function}
 use Rattle.model.specs.declared.Currents.{Currents}
 use Rattle.model.specs.declared.ErrorBits.{ErrorBits}
-use Rattle.model.specs.declared.Errors.{Errors}
-use Rattle.model.specs.declared.Kept.{Kept}
 use Rattle.model.specs.declared.Channel.{Channel}
 use Rattle.model.specs.declared.Shared.{Shared}
 use Rattle.model.specs.declared.ServiceBits.{ServiceBits}

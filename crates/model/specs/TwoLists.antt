@@ -7,23 +7,18 @@ use mathlib.Core.Bool.{Bool, true, false, cond, not, _&&_, _||_}
 use mathlib.Core.List.{List, [], _∷_, _++_}
 use Prim.Native.Nat.{ℕ, _+_, _*_, _≤_}
 use lib.Dec.{eqb}
-use Rattle.counts.specs.declared.TimerCount.{TimerCount}
-use Rattle.counts.specs.declared.OperatingCount.{OperatingCount}
 use Rattle.model.specs.declared.Config.{Config}
-use Rattle.model.specs.declared.Timers.{Timers}
-use Rattle.model.specs.declared.Channel.{Channel}
 use Rattle.model.specs.declared.Module.{Module}
 use Rattle.model.specs.declared.Reference.{Reference}
-use Rattle.model.specs.declared.Refusal.{Refusal}
 use Rattle.model.specs.declared.Reply.{Reply}
 use Rattle.model.specs.declared.Reference.the-variants.{None, Channel as ToChannel}
 use Rattle.model.specs.declared.Reply.the-variants.{Done, Refused}
 use Rattle.model.specs.State.{channelAt}
 use Rattle.model.specs.Settings.{digital, referenceOf, output}
 use Rattle.model.specs.Registers.{channelOf}
-use Rattle.model.specs.Image.{Entry, configFrom, entryOf}
+use Rattle.model.specs.Image.{configFrom, entryOf}
 use Rattle.model.specs.Questions.{numberOf, lengthOf, powerUpReply}
-use Rattle.model.specs.Calls.{Request, read, write, level, current, tick, Answer, Stepped, step, run, powerUp}
+use Rattle.model.specs.Calls.{Request, read, write, level, current, tick, Answer, step, run, powerUp}
 
 -- ---- whose a call is: "A wire call is for the channel of its SWNo, a sample for its own channel, refused ones included"
 pub data Owner : Type 0 where

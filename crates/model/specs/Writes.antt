@@ -1,10 +1,9 @@
 -- Document 01, "Registers": which bytes each register allows (question 7), and what an accepted write does. Definitions only.
-use mathlib.Core.Bool.{Bool, true, false, cond, _&&_, _||_}
+use mathlib.Core.Bool.{Bool, true, cond, _&&_}
 use mathlib.Core.List.{List, [], _∷_, map}
 use Prim.Native.Nat.{ℕ, suc}
 use lib.Dec.{eqb, leb}
 use lib.ListN.{getD}
-use lib.Ieee.{Float}
 use lib.Ieee.Scale.{finite}
 use Rattle.integers.specs.Bytes.{number, signedNumber}
 use Rattle.counts.specs.declared.TimerCount.{TimerCount}
@@ -15,7 +14,6 @@ use Rattle.numbers.specs.Written.{timerAllowed, presetAllowed, operatingAllowed
 use Rattle.model.specs.declared.Config.{Config}
 use Rattle.model.specs.declared.Channel.{Channel}
 use Rattle.model.specs.declared.Shared.{Shared}
-use Rattle.model.specs.declared.ServiceBits.{ServiceBits}
 use Rattle.model.specs.declared.Service.{Service}
 use Rattle.model.specs.declared.Module.{Module}
 use Rattle.model.specs.declared.ServiceRegister.{ServiceRegister}

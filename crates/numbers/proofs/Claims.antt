@@ -6,7 +6,7 @@ use Prim.Native.Nat.{ℕ, _^_, _<_}
 use lib.Dec.{T}
 use lib.ListN.{length}
 use lib.Pow.{areBytes}
-use lib.Ieee.{nan, binary32, isNan, fits, ofBits, toBits}
+use lib.Ieee.{nan, binary32, isNan, fits, toBits}
 use lib.Ieee.Bits.{toBits-ofBits, ofBits-fits}
 use Rattle.integers.specs.Bytes.{number, bytesOf}
 use Rattle.integers.proofs.Laws.Bytes.{number-lt, bytes-number}

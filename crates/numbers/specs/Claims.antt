@@ -7,7 +7,7 @@ use lib.Dec.{T}
 use lib.IntN.{pos}
 use lib.ListN.{length}
 use lib.Pow.{areBytes}
-use lib.Ieee.{Float, nan, binary32, isNan, fits}
+use lib.Ieee.{Float, binary32, isNan, fits}
 use mir.Syntax.{w32}
 use mir.Val.{SFits}
 use Rattle.counts.specs.Counts.{timerUnits, operatingUnits}

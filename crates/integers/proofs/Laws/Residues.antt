@@ -1,17 +1,15 @@
 -- The bits of a signed number, and sums modulo 2 ^ 32. Assumes nothing.
 use mathlib.Core.Path.{_≡_, refl, sym, ap, _∙_}
-use mathlib.Core.Bool.{Bool, true, false, not, cond, true≢false}
+use mathlib.Core.Bool.{Bool, true, false, not, cond}
 use Prim.Native.Nat.{ℕ, suc, _+_, _-_, _%_, _^_, _≤_, _<_}
 use native.Mathlib.Nat.{mod-eq-of-lt, mod-lt}
 use native.Mathlib.Omega.{arith}
 use lib.Dec.{T, ltb, ltb→lt, nltb→le, lit<}
-use lib.IntN.{ℤ, pos, negsuc, negℤ, natAbs, _+ℤ_, _-ℤ_, +ℤ-assoc, +ℤ-invl, +ℤ-idr}
-use lib.Signed.{ltZ, nonNeg}
+use lib.IntN.{ℤ, pos, negsuc, negℤ, _+ℤ_, _-ℤ_, +ℤ-assoc, +ℤ-invl, +ℤ-idr}
 use mir.Syntax.{Width}
 use mir.Val.{SFits, Fits, toZ, ofZ, sel, bits, hbits}
-use mir.ValLaws.{toZ-ofZ, toZ-pos, ofZ-fits, half-full, bits-suc}
-use borrow.Author.Tests.{ltb-true}
-use Rattle.integers.specs.Integers.{modulo, signedBits, wrapped}
+use mir.ValLaws.{half-full, bits-suc}
+use Rattle.integers.specs.Integers.{modulo, signedBits}
 
 -- ---- a signed number's bits are the number modulo 2 ^ bits
 pub modulo-bits : (w : Width) (z : ℤ) → SFits w z → modulo z (2 ^ bits w) ≡ ofZ w z

@@ -9,14 +9,12 @@ use Rattle.model.specs.declared.Function.{Function}
 use Rattle.model.specs.declared.Channel.{Channel}
 use Rattle.model.specs.declared.Shared.{Shared}
 use Rattle.model.specs.declared.Function.the-variants.{Input, Output, OneShot, DutyCycle, Timer}
-use Rattle.model.specs.declared.DigitalRegister.the-variants.{ChConfig}
 use Rattle.model.specs.State.{withConfig, outFlag, control, fbStatus, internalState, outTimer, fbTimer, setOutFlag, setControl, setFBStatus, setInternalState}
 use Rattle.model.specs.Settings as Settings
 use Rattle.model.specs.Settings.{functions}
 use Rattle.model.specs.Channel as Rules
 use Rattle.model.specs.Tick as Tick
 use Rattle.model.specs.Image as Image
-use Rattle.model.specs.Calls.{step}
 use Rattle.model.specs.Facts.{Ruled, Written, Judged}
 use Rattle.model.proofs.Laws.Tests.{either, by-test, both}
 

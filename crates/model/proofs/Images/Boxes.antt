@@ -1,5 +1,5 @@
 -- The box: when what it keeps is in its ranges, that its setup then is, and that power-up gives such a box, accepted or refused. Assumes nothing.
-use mathlib.Core.Path.{_≡_, refl, ap, _∙_}
+use mathlib.Core.Path.{_≡_, refl, _∙_}
 use mathlib.Core.List.{List, [], _∷_, map}
 use Prim.Native.Nat.{ℕ, zero, suc, _-_}
 use lib.Dec.{T}

@@ -2,9 +2,9 @@
 -- may name, what decides its InFlag. Each rule keeps boxes alike. Assumes nothing.
 use mathlib.Core.Path.{_≡_, refl, sym, _∙_, ap, subst}
 use mathlib.Core.Logic.{_≢_}
-use mathlib.Core.Bool.{Bool, true, false, cond, not, _&&_, _||_, xor, Bool·beq}
+use mathlib.Core.Bool.{Bool, true, false, cond, not, _&&_}
 use mathlib.Core.List.{List, [], _∷_, _++_, map}
-use Prim.Native.Nat.{ℕ, zero, suc, _+_, _-_, _*_, _/_, _%_, _≤_, _<_}
+use Prim.Native.Nat.{ℕ, suc, _+_, _-_, _*_, _/_, _≤_, _<_}
 use native.Mathlib.Omega.{arith}
 use native.Mathlib.Decide.{ℕ-discrete}
 use lib.Dec.{T, eqb, eqb-refl}
@@ -15,7 +15,6 @@ use Rattle.model.specs.declared.Config.{Config}
 use Rattle.model.specs.declared.Channel.{Channel}
 use Rattle.model.specs.declared.Shared.{Shared}
 use Rattle.model.specs.declared.Module.{Module}
-use Rattle.model.specs.declared.Reference.{Reference}
 use Rattle.model.specs.declared.ServiceRegister.{ServiceRegister}
 use Rattle.model.specs.declared.DigitalRegister.{DigitalRegister}
 use Rattle.model.specs.declared.CommonRegister.{CommonRegister}
@@ -26,7 +25,7 @@ use Rattle.model.specs.declared.CommonRegister.the-variants.{OutFlags, I
 use Rattle.model.specs.State.{nothing, inFlag, outFlag, channelAt, putChannel, setFBStatus}
 use Rattle.model.specs.Settings as Settings
 use Rattle.model.specs.Settings.{referenceOf, levelOf}
-use Rattle.model.specs.Registers.{Place, service, digital, common, unlisted, beyond, place, digitalRow}
+use Rattle.model.specs.Registers.{place, digitalRow}
 use Rattle.model.specs.Image as Image
 use Rattle.model.specs.Reads as Reads
 use Rattle.model.specs.Writes as Writes

@@ -1,15 +1,15 @@
 -- n / 2 ^ u as a Real of 32 bits, for an n from 1 up and below 2 ^ 32 with z leading zeros and a u up to 8. Moved up by z places n has 32 digits, of which the Real keeps 24, rounded: that is q.
 -- The exponent's field, less one for the leading digit, is 157 - u - z. Where q is 2 ^ 24, the sum of the two carries into the exponent. Assumes nothing.
 use mathlib.Core.Path.{_≡_, refl, sym, ap, _∙_, subst}
-use mathlib.Core.Logic.{_⊎_, inl, inr}
+use mathlib.Core.Logic.{inl, inr}
 use mathlib.Core.Bool.{Bool, true, false, not, cond}
 use Prim.Native.Nat.{ℕ, suc, _+_, _-_, _*_, _/_, _%_, _^_, _≤_, _<_, compare}
 use native.Mathlib.Nat.{le-trans, le-of-eq, lt-of-lt-of-le, lt-of-le-of-lt, eq-or-lt-of-le, mul-assoc, mul-comm, mul-le-mul-right, mul-lt-mul-of-pos-right, mul-div-cancel, mul-pos, pow-suc, mod-eq-of-lt, zero-mul, eq-zero-or-pos}
 use native.Mathlib.Omega.{arith}
-use lib.Dec.{T, lit<, lit≤}
+use lib.Dec.{T, lit<}
 use lib.Count.{leadingZeros, leading-top}
-use lib.Pow.{pow-add, pow-pos, pow-mono, pow-lt}
-use lib.Ieee.{Float, binary32, prec, low, top, hid, size, round, nanBits, toBits, ofBits}
+use lib.Pow.{pow-add, pow-pos, pow-lt}
+use lib.Ieee.{binary32, top, size, round, nanBits, toBits, ofBits}
 use lib.Ieee.Bits.{ofBits-toBits}
 use lib.Ieee.Fits.{round-fits, nearest-le}
 use lib.Ieee.Nearest.{closest, closest-same, nearest-ge}

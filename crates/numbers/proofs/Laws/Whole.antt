@@ -1,7 +1,7 @@
 -- The laws of `whole`. Nothing else looks into it. Assumes nothing.
 use mathlib.Core.Path.{_≡_}
-use Prim.Native.Nat.{ℕ, _*_, _/_, _≤_, _<_}
-use native.Mathlib.Nat.{le-trans, le-of-eq, mul-le-mul-right, mul-div-cancel, div-eq-of-lt, zero-div}
+use Prim.Native.Nat.{ℕ, _*_, _≤_, _<_}
+use native.Mathlib.Nat.{le-trans, le-of-eq, mul-le-mul-right, mul-div-cancel, div-eq-of-lt}
 use native.Mathlib.Omega.{arith}
 use lib.Ieee.Nearest.{div-same, div-mono}
 use Rattle.numbers.specs.Reals.{whole}

@@ -1,5 +1,5 @@
 -- `signed::bits_of_i16` meets its contract. Assumes nothing.
-use mathlib.Core.Path.{_≡_, sym, ap, _∙_}
+use mathlib.Core.Path.{sym, ap, _∙_}
 use mir.Syntax.{w16}
 use Rattle.integers.proofs.Laws.Residues.{modulo-bits}
 use Rattle.integers.proofs.Laws.Signs.{flip, Negative, Positive, negative, positive}

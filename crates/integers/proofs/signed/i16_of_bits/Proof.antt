@@ -1,6 +1,6 @@
 -- `signed::i16_of_bits` meets its contract. Assumes nothing.
 use borrow.Author.Needs.{needs}
-use mathlib.Core.Path.{_≡_, sym, ap, _∙_}
+use mathlib.Core.Path.{sym, ap, _∙_}
 use mir.Syntax.{w16}
 use mir.Val.{toZ}
 use Rattle.integers.proofs.Laws.Residues.{bits-signed}

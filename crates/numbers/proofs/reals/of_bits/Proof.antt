@@ -1,6 +1,5 @@
 -- `reals::of_bits` meets its contract. Assumes nothing.
 use borrow.Author.Needs.{needs}
-use mathlib.Core.Path.{_∙_, refl}
 use lib.Ieee.{ofBits, div}
 use Rattle.numbers.proofs.Laws.Floats.{nan-pattern, no-nan-pattern}
 use Rattle.numbers.proofs.reals.of_bits.Statement.{statement}

@@ -1,10 +1,9 @@
 -- `times::magnitude` meets its contract. Assumes nothing.
-use mathlib.Core.Path.{_≡_, sym, ap, _∙_, subst}
+use mathlib.Core.Path.{sym, ap, _∙_, subst}
 use Prim.Native.Nat.{ℕ, _+_, _<_}
 use native.Mathlib.Numerals.{add-one}
 use native.Mathlib.Omega.{arith}
 use mir.Syntax.{w32}
-use mir.Val.{Fits}
 use Rattle.integers.proofs.Laws.Signs.{Negative, Positive, negative, positive}
 use Rattle.numbers.proofs.times.magnitude.Statement.{statement}
 use Rattle.numbers.proofs.times.magnitude.Tie as tie

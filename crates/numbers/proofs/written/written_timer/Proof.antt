@@ -1,7 +1,7 @@
 -- `written::written_timer` meets its contract. Assumes nothing.
 use borrow.Author.Needs.{needs}
 use mathlib.Core.Path.{_≡_, sym, ap, _∙_, subst}
-use mathlib.Core.Bool.{Bool, true, false, cond}
+use mathlib.Core.Bool.{Bool, true, cond}
 use lib.Dec.{T, lit≤}
 use lib.IntN.{ℤ}
 use lib.Ieee.{binary32, fits}
