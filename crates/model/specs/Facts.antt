@@ -23,7 +23,7 @@ use Rattle.model.specs.Channel.{aboveTrip, setOverload, outFlagsWritten}
 use Rattle.model.specs.Errors.{hasHis, comBytes}
 use Rattle.model.specs.Registers.{service, digital, common, serviceRow, digitalRow, commonRow, place, size}
 use Rattle.model.specs.Reads.{bytesRead, flagReg, channelWord}
-use Rattle.model.specs.Tick.{saveDue, leaks, driven, found}
+use Rattle.model.specs.Tick.{saveDue, leaks, driven, found, runsOut, ticked}
 use Rattle.model.specs.Image.{Entry, setupOf, entryFrom, entryBytes, restored, restoredShared, noServiceBits, externalReset, started, zeroSetup}
 use Rattle.model.specs.Calls.{read, write, step}
 
@@ -64,6 +64,10 @@ pub record Ruled : Type 0 where
   -- a watchdog that runs out leaves OutFlag and Control cleared, whatever the special function
   pub shut-out : (s : Shared) (ch : Channel) → outFlag (driven s true ch) ≡ false
   pub shut-control : (s : Shared) (ch : Channel) → control (driven s true ch) ≡ false
+  -- and sets Act and His bit 3 of the service channel, which no other tick touches
+  pub run-out-act : (m : Module) → runsOut (m .shared) (m .service .watchdog) ≡ true → ticked m .service .act .watchdog ≡ true
+  pub run-out-his : (m : Module) → runsOut (m .shared) (m .service .watchdog) ≡ true → ticked m .service .his .watchdog ≡ true
+  pub still-runs : (m : Module) → runsOut (m .shared) (m .service .watchdog) ≡ false → ticked m .service .act ≡ m .service .act
 
 -- the rules of OutFlag, Control and ChConfig
 pub record Written : Type 0 where

@@ -14,7 +14,7 @@ fn is_digit(b: u8) -> bool {
     b <= b'f'
 }
 
-// Whether a line `KK XXXXXXXX` may have `b` at `i`, past the kind.
+// Whether a line `KK WWWWWWWW` may have `b` at `i`, past the kind.
 fn allowed(i: usize, b: u8) -> bool {
     match i {
         2 => b == b' ',
@@ -23,7 +23,7 @@ fn allowed(i: usize, b: u8) -> bool {
     }
 }
 
-// Whether a line is `KK XXXXXXXX`.
+// Whether a line is `KK WWWWWWWW`.
 fn well_formed(line: &[u8; 12]) -> bool {
     let mut i = 2;
     while i < 12 && allowed(i, line[i]) {

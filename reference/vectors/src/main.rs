@@ -1,7 +1,7 @@
 //! Test vectors for the conversions between 32-bit Reals and counts, worked
 //! out in whole numbers, apart from any code that is to be tested with them.
 //!
-//! `vectors OUTDIR` writes OUTDIR/stdin with lines `KK XXXXXXXX` (a kind and a
+//! `vectors OUTDIR` writes OUTDIR/stdin with lines `KK WWWWWWWW` (a kind and a
 //! word) and OUTDIR/stdout with the same lines and the expected result after
 //! each: eight hex digits, or `--------` where the value is refused.
 

@@ -8,6 +8,7 @@ use Rattle.model.specs.declared.Config.{Config}
 use Rattle.model.specs.declared.Function.{Function}
 use Rattle.model.specs.declared.Channel.{Channel}
 use Rattle.model.specs.declared.Shared.{Shared}
+use Rattle.model.specs.declared.Module.{Module}
 use Rattle.model.specs.declared.Function.the-variants.{Input, Output, OneShot, DutyCycle, Timer}
 use Rattle.model.specs.State.{withConfig, outFlag, control, fbStatus, internalState, outTimer, fbTimer, setOutFlag, setControl, setFBStatus, setInternalState}
 use Rattle.model.specs.Settings as Settings
@@ -85,8 +86,36 @@ off-driven s ch =
     let ran = Tick.special (functions run) run in
     off-guarded s (Rules.changed (outFlag ch) ran) (off-changed (outFlag ch) ran (off-special (functions run) run (refl, refl)))
 
+or-true : (a b : Bool) → b ≡ true → a || b ≡ true
+or-true true b e = refl
+or-true false b e = e
+
+or-false : (a b : Bool) → b ≡ false → a || b ≡ a
+or-false true b e = refl
+or-false false b e = e
+
+run-out-act : (m : Module) → Tick.runsOut (m .shared) (m .service .watchdog) ≡ true → Tick.ticked m .service .act .watchdog ≡ true
+unfolding Tick.ticked Tick.tickService
+run-out-act m e = or-true (m .service .act .watchdog) _ e
+
+run-out-his : (m : Module) → Tick.runsOut (m .shared) (m .service .watchdog) ≡ true → Tick.ticked m .service .his .watchdog ≡ true
+unfolding Tick.ticked Tick.tickService
+run-out-his m e = or-true (m .service .his .watchdog) _ e
+
+still-runs : (m : Module) → Tick.runsOut (m .shared) (m .service .watchdog) ≡ false → Tick.ticked m .service .act ≡ m .service .act
+unfolding Tick.ticked Tick.tickService
+still-runs m e = ap (λ (b : Bool). Tick.withWatchdog b (m .service .act)) (or-false (m .service .act .watchdog) _ e)
+
 pub ruled : Ruled
-ruled = record { rise-by-out-flags = rise-by-out-flags; shut-out = λ s ch. off-driven s ch .0; shut-control = λ s ch. off-driven s ch .1 }
+ruled =
+    record {
+      rise-by-out-flags = rise-by-out-flags;
+      shut-out = λ s ch. off-driven s ch .0;
+      shut-control = λ s ch. off-driven s ch .1;
+      run-out-act = run-out-act;
+      run-out-his = run-out-his;
+      still-runs = still-runs;
+    }
 
 -- ---- OutFlag, Control and ChConfig
 differs : (b : Bool) → Bool·beq (not b) b ≡ false
@@ -104,14 +133,6 @@ changes ch = ap (λ (b : Bool). cond b ch (Rules.awaitFeedback (Rules.startFBTim
 no-change : (ch : Channel) → Rules.changed (outFlag ch) ch ≡ ch
 unfolding Rules.changed
 no-change ch = ap (λ (b : Bool). cond b ch (Rules.awaitFeedback (Rules.startFBTimer ch))) (same (outFlag ch))
-
-or-true : (a b : Bool) → b ≡ true → a || b ≡ true
-or-true true b e = refl
-or-true false b e = e
-
-or-false : (a b : Bool) → b ≡ false → a || b ≡ a
-or-false true b e = refl
-or-false false b e = e
 
 -- what the change rule leaves of a channel
 abbrev Leaves : {A : Type 0} → (Channel → A) → Type 0
