@@ -3,3 +3,4 @@ pub mod Lists
 pub mod Places
 pub mod Inputs
 pub mod Alike
+pub mod Filled

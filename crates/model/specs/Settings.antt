@@ -43,9 +43,10 @@ isSpecial Timer = true
 unfoldable pub referenceOf : ℕ → Reference
 referenceOf n = cond (digital n) (ToChannel n) None
 
+-- any other number acts as no channel
 abbrev pub isSet : Reference → Bool
 isSet None = false
-isSet (ToChannel k) = true
+isSet (ToChannel k) = digital k
 
 abbrev pub functions : Channel → Function
 functions ch = functionOf (ch .config .function)
@@ -76,7 +77,7 @@ silencesOverload ch = bit 6 (ch .config .enable)
 -- InFlag of a reference, where `levels` are the InFlags of channels 1 to 16: "0 without a reference"
 abbrev pub levelOf : List Bool → Reference → Bool
 levelOf levels None = false
-levelOf levels (ToChannel k) = getD levels (k - 1) false
+levelOf levels (ToChannel k) = digital k && getD levels (k - 1) false
 
 -- "InA is InFlag of Ref_A, InB of Ref_B; simulated feedback gives OutFlag and its opposite, reference or not"
 unfoldable pub inA : List Bool → Channel → Bool

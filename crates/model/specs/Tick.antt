@@ -65,6 +65,14 @@ fell ch = internalState ch && not (control ch)
 abbrev pub reload : Channel → Channel
 reload ch = setOutTimer (outPreset ch) ch
 
+-- positive edge: OutTimer := OutPreset
+abbrev pub loaded : Channel → Channel
+loaded ch = cond (rose ch) (reload ch) ch
+
+-- positive edge: OutTimer := OutPreset; OutFlag := TRUE
+abbrev pub switchedOn : Channel → Channel
+switchedOn ch = cond (rose ch) (setOutFlag true (reload ch)) ch
+
 -- negative edge: OutFlag := FALSE
 abbrev pub dropped : Channel → Channel
 dropped ch = cond (fell ch) (setOutFlag false ch) ch
@@ -82,10 +90,10 @@ abbrev pub turned : Channel → Channel
 turned ch = cond (control ch && not (isPositive (outTimer ch))) (reload (setOutFlag (not (outFlag ch)) ch)) ch
 
 unfoldable pub oneShot : Channel → Channel
-oneShot ch = timed (seen (dropped (cond (rose ch) (reload ch) ch)))
+oneShot ch = timed (seen (dropped (loaded ch)))
 
 unfoldable pub dutyCycle : Channel → Channel
-dutyCycle ch = turned (seen (dropped (cond (rose ch) (setOutFlag true (reload ch)) ch)))
+dutyCycle ch = turned (seen (dropped (switchedOn ch)))
 
 unfoldable pub timerOutput : Channel → Channel
 timerOutput ch = timed (seen (dropped ch))
@@ -180,6 +188,12 @@ reviewed s due levels ch = saved due (judged s (looked s levels ch))
 abbrev pub levels : Module → List Bool
 levels m = map inFlag (m .channels)
 
+abbrev pub channelTicked : Shared → Bool → Bool → List Bool → Channel → Channel
+channelTicked s ranOut due levels ch = reviewed s due levels (driven s ranOut ch)
+
+abbrev pub channelsTicked : Shared → Bool → Bool → List Channel → List Channel
+channelsTicked s ranOut due cs = map (channelTicked s ranOut due (map inFlag cs)) cs
+
 unfoldable pub ticked : Module → Module
 ticked m =
     let s = tickShared (m .shared) in
@@ -187,5 +201,5 @@ ticked m =
     record {
       shared = s;
       service = tickService ranOut (m .service);
-      channels = map (λ (ch : Channel). reviewed s (saveDue (m .shared)) (levels m) (driven s ranOut ch)) (m .channels);
+      channels = channelsTicked s ranOut (saveDue (m .shared)) (m .channels);
     }

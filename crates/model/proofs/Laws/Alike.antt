@@ -207,9 +207,10 @@ module _ (c : ℕ) (ns : List ℕ) where
         go : (t : Bool) → Settings.digital b ≡ t → Within ns (namesOf (cond t (ToChannel b) None)) → levelOf (levels m) (cond t (ToChannel b) None) ≡ levelOf (levels m′) (cond t (ToChannel b) None)
         go true e v =
             let (l₁, l₂) = range b e in
-            List·getD-map inFlag (m .channels) (b - 1) nothing
+            ap (λ (x : Bool). Settings.digital b && x)
+            (List·getD-map inFlag (m .channels) (b - 1) nothing
             ∙ ap (λ (n : Inputs). n .level) (a .1 .near (b - 1) (omega arith) .seen (subst (λ (j : ℕ). T (among j ns)) (omega arith) (v .0)))
-            ∙ sym (List·getD-map inFlag (m′ .channels) (b - 1) nothing)
+            ∙ sym (List·getD-map inFlag (m′ .channels) (b - 1) nothing))
         go false e v = refl
 
     -- InA and InB of a channel whose references are among ns

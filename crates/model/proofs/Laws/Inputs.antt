@@ -18,7 +18,7 @@ use Rattle.model.specs.declared.Function.the-variants.{Input, Output, On
 use Rattle.model.specs.declared.ServiceRegister.the-variants.{Highest, Reset, FreeRunTimer, WDTimer, ModuleConfig, WDPreset, WriteEnable, CommonError}
 use Rattle.model.specs.declared.DigitalRegister.the-variants.{FlagReg, OutTimer, Counter, OutCurrent, OperatingTime, UserBytes, FBTimer, FBPreset, OutPreset, ChConfig, MinCurrent, MaxCurrent, UserReals, Maintenance, ChError}
 use Rattle.model.specs.declared.CommonRegister.the-variants.{OutFlags, InFlags, IOChError, ChError as CommonChError}
-use Rattle.model.specs.State.{outFlag, inFlag, control, outTimer, setInFlag, setFBStatus, setOutFlag, setOutCurrent, withCounter}
+use Rattle.model.specs.State.{outFlag, inFlag, control, outTimer, setInFlag, setFBStatus, setOutCurrent, withCounter}
 use Rattle.model.specs.Settings as Settings
 use Rattle.model.specs.Settings.{bit, functions}
 use Rattle.model.specs.Channel as Rules
@@ -144,13 +144,13 @@ in-outFlags b ch = either (Kept ch) (outFlag ch) (in-changed _ _ ∙ in-takeOut 
 in-oneShot : (ch : Channel) → inputs (Tick.oneShot ch) ≡ inputs ch
 unfolding Tick.oneShot
 in-oneShot ch =
-    let x = cond (Tick.rose ch) (Tick.reload ch) ch in
+    let x = Tick.loaded ch in
     in-timed (Tick.seen (Tick.dropped x)) ∙ in-dropped x ∙ either (Kept ch) (Tick.rose ch) refl refl
 
 in-dutyCycle : (ch : Channel) → inputs (Tick.dutyCycle ch) ≡ inputs ch
 unfolding Tick.dutyCycle
 in-dutyCycle ch =
-    let x = cond (Tick.rose ch) (setOutFlag true (Tick.reload ch)) ch in
+    let x = Tick.switchedOn ch in
     in-turned (Tick.seen (Tick.dropped x)) ∙ in-dropped x ∙ either (Kept ch) (Tick.rose ch) refl refl
 
 in-timerOutput : (ch : Channel) → inputs (Tick.timerOutput ch) ≡ inputs ch

@@ -1,0 +1,126 @@
+// The special functions, each by the manual's precise description. InternalState is Control as the
+// special function last saw it, so that an edge is seen once.
+ghost use mathlib.Core.Path.{_≡_};
+ghost use Rattle.model.specs.Tick.{rose, reload, loaded, switchedOn, dropped, seen, timed, turned, oneShot, dutyCycle, timerOutput, special};
+use model::Channel;
+use model::Function;
+
+fn rose(ch: Channel) -> bool
+    ensures { λ r. ⌜ r ≡ rose ch ⌝ }
+{
+    !ch.flags.internal & ch.flags.control
+}
+
+// OutTimer := OutPreset.
+fn reload(ch: Channel) -> Channel
+    ensures { λ r. ⌜ r ≡ reload ch ⌝ }
+{
+    let preset = ch.presets.out;
+    let mut timers = ch.timers;
+    timers.out = preset;
+    let mut next = ch;
+    next.timers = timers;
+    next
+}
+
+// Control rose: OutTimer := OutPreset.
+fn load(ch: Channel) -> Channel
+    ensures { λ r. ⌜ r ≡ loaded ch ⌝ }
+{
+    if rose(ch) {
+        return reload(ch);
+    }
+    ch
+}
+
+// Control rose: OutTimer := OutPreset, and OutFlag := TRUE.
+fn switch_on(ch: Channel) -> Channel
+    ensures { λ r. ⌜ r ≡ switchedOn ch ⌝ }
+{
+    if rose(ch) {
+        let mut next = reload(ch);
+        next.flags.out = true;
+        return next;
+    }
+    ch
+}
+
+// Control fell: OutFlag := FALSE.
+fn drop_output(ch: Channel) -> Channel
+    ensures { λ r. ⌜ r ≡ dropped ch ⌝ }
+{
+    if ch.flags.internal & !ch.flags.control {
+        let mut next = ch;
+        next.flags.out = false;
+        return next;
+    }
+    ch
+}
+
+// InternalState := Control.
+fn see_control(ch: Channel) -> Channel
+    ensures { λ r. ⌜ r ≡ seen ch ⌝ }
+{
+    let control = ch.flags.control;
+    let mut next = ch;
+    next.flags.internal = control;
+    next
+}
+
+// Under Control, OutFlag := OutTimer > 0.
+fn time_output(ch: Channel) -> Channel
+    ensures { λ r. ⌜ r ≡ timed ch ⌝ }
+{
+    if ch.flags.control {
+        let timer = ch.timers.out;
+        let on = timer.positive();
+        let mut next = ch;
+        next.flags.out = on;
+        return next;
+    }
+    ch
+}
+
+// Under Control, where OutTimer has run out: OutFlag turns, and OutTimer starts anew.
+fn turn_output(ch: Channel) -> Channel
+    ensures { λ r. ⌜ r ≡ turned ch ⌝ }
+{
+    let timer = ch.timers.out;
+    if ch.flags.control & !timer.positive() {
+        let on = !ch.flags.out;
+        let mut next = ch;
+        next.flags.out = on;
+        return reload(next);
+    }
+    ch
+}
+
+pub fn one_shot(ch: Channel) -> Channel
+    ensures { λ r. ⌜ r ≡ oneShot ch ⌝ }
+{
+    time_output(see_control(drop_output(load(ch))))
+}
+
+pub fn duty_cycle(ch: Channel) -> Channel
+    ensures { λ r. ⌜ r ≡ dutyCycle ch ⌝ }
+{
+    turn_output(see_control(drop_output(switch_on(ch))))
+}
+
+pub fn timer_output(ch: Channel) -> Channel
+    ensures { λ r. ⌜ r ≡ timerOutput ch ⌝ }
+{
+    time_output(see_control(drop_output(ch)))
+}
+
+pub fn special(f: Function, ch: Channel) -> Channel
+    ensures { λ r. ⌜ r ≡ special f ch ⌝ }
+{
+    match f {
+        Function::Input => ch,
+        Function::Output => ch,
+        Function::OneShot => one_shot(ch),
+        Function::DutyCycle => duty_cycle(ch),
+        Function::Timer => timer_output(ch),
+    }
+}

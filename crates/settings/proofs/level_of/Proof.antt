@@ -1,0 +1,44 @@
+-- `level_of` meets its contract. Assumes nothing.
+use borrow.Author.Needs.{needs}
+use borrow.Author.Tests.{le-leb, lt-leb}
+use Rattle.settings.proofs.level_of.Statement.{statement}
+use Rattle.settings.proofs.level_of.Tie as tie
+
+enum-told : tie.Need-enum-told
+enum-told c = search needs
+
+enum-known-r : tie.Need-enum-known-r
+enum-known-r c = search needs
+
+cast-n : tie.Need-cast-n
+cast-n c = search needs
+
+returns : tie.Need-returns
+returns c = simp (c .before .before .r .given .1, lt-leb 1 _ (c .if1 .taken))
+
+returns-2 : tie.Need-returns-2
+returns-2 c =
+    simp (c .before .before .before .r .given .1, le-leb 1 _ (c .before .if1 .left), lt-leb _ 16 (c .if2 .taken))
+
+array-read-result : tie.Need-array-read-result
+array-read-result c = search needs
+
+returns-3 : tie.Need-returns-3
+returns-3 c = search needs
+
+returns-4 : tie.Need-returns-4
+returns-4 c =
+    simp (c .before .before .before .r .given .1, le-leb 1 _ (c .before .if1 .left), le-leb _ 16 (c .if2 .left))
+
+pub level-of-spec : {M : Type 1} → statement M
+level-of-spec =
+    tie.close
+    (tie.spec
+    enum-told
+    enum-known-r
+    cast-n
+    returns
+    returns-2
+    array-read-result
+    returns-3
+    returns-4)

@@ -1,0 +1,154 @@
+// What a channel's settings say: Functions, Enablebit, references, InA and InB, Output. ChConfig is
+// held as its bytes, and decoded here, where it acts.
+ghost use mathlib.Core.Path.{_≡_};
+ghost use Rattle.model.specs.Settings.{functionOf, notInput, isSpecial, referenceOf, isSet, functions, refA, refB, hasReference, simulatesInput, simulatesFeedback, enablesUnderload, silencesOverload, levelOf, inA, inB, output};
+use model::Channel;
+use model::Function;
+use model::Reference;
+
+// A byte that is not listed acts as 0.
+pub fn function_of(n: u8) -> Function
+    ensures { λ r. ⌜ r ≡ functionOf n ⌝ }
+{
+    match n {
+        0x10 => Function::Output,
+        0x20 => Function::OneShot,
+        0x30 => Function::DutyCycle,
+        0x50 => Function::Timer,
+        _ => Function::Input,
+    }
+}
+
+pub fn not_input(f: Function) -> bool
+    ensures { λ r. ⌜ r ≡ notInput f ⌝ }
+{
+    match f {
+        Function::Input => false,
+        Function::Output => true,
+        Function::OneShot => true,
+        Function::DutyCycle => true,
+        Function::Timer => true,
+    }
+}
+
+pub fn is_special(f: Function) -> bool
+    ensures { λ r. ⌜ r ≡ isSpecial f ⌝ }
+{
+    match f {
+        Function::Input => false,
+        Function::Output => false,
+        Function::OneShot => true,
+        Function::DutyCycle => true,
+        Function::Timer => true,
+    }
+}
+
+pub fn functions(ch: Channel) -> Function
+    ensures { λ r. ⌜ r ≡ functions ch ⌝ }
+{
+    function_of(ch.config.function)
+}
+
+// A byte above 16 acts as no reference.
+pub fn reference_of(n: u8) -> Reference
+    ensures { λ r. ⌜ r ≡ referenceOf n ⌝ }
+{
+    if (1 <= n) & (n <= 16) {
+        return Reference::Channel(n);
+    }
+    Reference::None
+}
+
+pub fn is_set(r: Reference) -> bool
+    ensures { λ b. ⌜ b ≡ isSet r ⌝ }
+{
+    match r {
+        Reference::None => false,
+        Reference::Channel(k) => (1 <= k) & (k <= 16),
+    }
+}
+
+pub fn ref_a(ch: Channel) -> Reference
+    ensures { λ r. ⌜ r ≡ refA ch ⌝ }
+{
+    reference_of(ch.config.a)
+}
+
+pub fn ref_b(ch: Channel) -> Reference
+    ensures { λ r. ⌜ r ≡ refB ch ⌝ }
+{
+    reference_of(ch.config.b)
+}
+
+pub fn has_reference(ch: Channel) -> bool
+    ensures { λ r. ⌜ r ≡ hasReference ch ⌝ }
+{
+    is_set(ref_a(ch)) | is_set(ref_b(ch))
+}
+
+pub fn simulates_input(ch: Channel) -> bool
+    ensures { λ r. ⌜ r ≡ simulatesInput ch ⌝ }
+{
+    ch.config.enable % 2 == 1
+}
+
+pub fn simulates_feedback(ch: Channel) -> bool
+    ensures { λ r. ⌜ r ≡ simulatesFeedback ch ⌝ }
+{
+    ch.config.enable / 4 % 2 == 1
+}
+
+pub fn enables_underload(ch: Channel) -> bool
+    ensures { λ r. ⌜ r ≡ enablesUnderload ch ⌝ }
+{
+    ch.config.enable / 32 % 2 == 1
+}
+
+pub fn silences_overload(ch: Channel) -> bool
+    ensures { λ r. ⌜ r ≡ silencesOverload ch ⌝ }
+{
+    ch.config.enable / 64 % 2 == 1
+}
+
+// InFlag of a reference, where levels are the InFlags of channels 1 to 16.
+pub fn level_of(levels: [bool; 16], r: Reference) -> bool
+    ensures { λ b. ⌜ b ≡ levelOf levels r ⌝ }
+{
+    match r {
+        Reference::None => false,
+        Reference::Channel(k) => {
+            let n = k as usize;
+            if n < 1 {
+                return false;
+            }
+            if 16 < n {
+                return false;
+            }
+            levels[n - 1]
+        }
+    }
+}
+
+pub fn in_a(levels: [bool; 16], ch: Channel) -> bool
+    ensures { λ r. ⌜ r ≡ inA levels ch ⌝ }
+{
+    if simulates_feedback(ch) {
+        return ch.flags.out;
+    }
+    level_of(levels, ref_a(ch))
+}
+
+pub fn in_b(levels: [bool; 16], ch: Channel) -> bool
+    ensures { λ r. ⌜ r ≡ inB levels ch ⌝ }
+{
+    if simulates_feedback(ch) {
+        return !ch.flags.out;
+    }
+    level_of(levels, ref_b(ch))
+}
+
+pub fn output(ch: Channel) -> bool
+    ensures { λ r. ⌜ r ≡ output ch ⌝ }
+{
+    ch.flags.out & not_input(functions(ch))
+}
