@@ -50,7 +50,9 @@ fn overloaded(s: Shared, ch: Channel) -> bool
 {
     let currents = ch.currents;
     let timer = ch.timers.feedback;
-    channel::above_trip(s, currents) | (ch.flags.out & timer.negative() & above_maximum(currents))
+    let expired = timer.negative();
+    let above = above_maximum(currents);
+    channel::above_trip(s, currents) | (ch.flags.out & expired & above)
 }
 
 // Step 4.
