@@ -1,0 +1,2 @@
+-- The code's place of a register beside the model's.
+pub mod Places

@@ -1,0 +1,12 @@
+-- The code's place and the model's are the same five cases. Definitions only.
+use Rattle.model.specs.Registers as Table
+use Rattle.registers.specs.declared.Place.{Place}
+use Rattle.registers.specs.declared.Place.the-variants.{Service, Digital, Common, Unlisted, Beyond}
+
+-- the place of the model that a place of the code stands for
+abbrev pub placed : Place → Table.Place
+placed (Service r) = Table.service r
+placed (Digital k r) = Table.digital k r
+placed (Common r) = Table.common r
+placed Unlisted = Table.unlisted
+placed Beyond = Table.beyond
