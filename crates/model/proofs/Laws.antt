@@ -4,3 +4,4 @@ pub mod Places
 pub mod Inputs
 pub mod Alike
 pub mod Filled
+pub mod Elements

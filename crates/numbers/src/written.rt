@@ -22,7 +22,7 @@ pub enum CurrentValue {
     Outside,
 }
 
-fn timer_allowed(x: f32) -> bool
+pub fn timer_allowed(x: f32) -> bool
     ensures { λ r. ⌜ r ≡ timerAllowed x ⌝ }
 {
     if -8388608.0 <= x {
@@ -32,19 +32,19 @@ fn timer_allowed(x: f32) -> bool
     }
 }
 
-fn preset_allowed(x: f32) -> bool
+pub fn preset_allowed(x: f32) -> bool
     ensures { λ r. ⌜ r ≡ presetAllowed x ⌝ }
 {
     if 0.0 <= x { x < 8388608.0 } else { false }
 }
 
-fn operating_allowed(x: f32) -> bool
+pub fn operating_allowed(x: f32) -> bool
     ensures { λ r. ⌜ r ≡ operatingAllowed x ⌝ }
 {
     if 0.0 <= x { x < 536870912.0 } else { false }
 }
 
-fn limit_allowed(x: f32) -> bool
+pub fn limit_allowed(x: f32) -> bool
     ensures { λ r. ⌜ r ≡ limitAllowed x ⌝ }
 {
     if 0.0 <= x { x <= 1.0 } else { false }

@@ -1,0 +1,132 @@
+// The questions of wire calls and samples, in order: each answer is the refusal of the first
+// question whose answer is no, or what is done.
+ghost use mathlib.Core.Path.{_≡_};
+ghost use Rattle.model.specs.Settings.{digital};
+ghost use Rattle.model.specs.Questions.{question1, question2, question3, question4, question6, readReply, writeReply, levelReply, currentReply};
+ghost use Rattle.registers.specs.Places.{placed};
+
+mod values;
+
+use model::Refusal;
+use model::Reply;
+use model::Shared;
+use numbers::reals;
+use registers::Place;
+
+// 1. SWNo at most $11F?
+fn within(p: Place) -> bool
+    ensures { λ b. ⌜ b ≡ question1 (placed p) ⌝ }
+{
+    match p {
+        Place::Service(_) => true,
+        Place::Digital(_, _) => true,
+        Place::Common(_) => true,
+        Place::Unlisted => true,
+        Place::Beyond => false,
+    }
+}
+
+// 2. Register listed?
+fn listed(p: Place) -> bool
+    ensures { λ b. ⌜ b ≡ question2 (placed p) ⌝ }
+{
+    match p {
+        Place::Service(_) => true,
+        Place::Digital(_, _) => true,
+        Place::Common(_) => true,
+        Place::Unlisted => false,
+        Place::Beyond => false,
+    }
+}
+
+// 3. On a write, writable?
+fn writable(p: Place) -> bool
+    ensures { λ b. ⌜ b ≡ question3 (placed p) ⌝ }
+{
+    registers::is_writable(registers::access(p))
+}
+
+// 4. On a write, exact length?
+fn exact(p: Place, bytes: &[u8]) -> bool
+    ensures { λ b. ⌜ b ≡ question4 (placed p) (now (bytes .entry)) ⌝ }
+{
+    bytes.len() == registers::size(p)
+}
+
+// 6. On a write of a protected register, WriteEnable TRUE?
+fn enabled(s: Shared, p: Place) -> bool
+    ensures { λ b. ⌜ b ≡ question6 s (placed p) ⌝ }
+{
+    !registers::is_protected(registers::access(p)) | s.enabled
+}
+
+// Questions 1, 2 and 5, of a read into a lent buffer.
+pub fn read_reply(p: Place, lent: &[u8]) -> Reply
+    ensures { λ r. ⌜ r ≡ readReply (placed p) (now (lent .entry)) ⌝ }
+{
+    if !within(p) {
+        return Reply::Refused(Refusal::Beyond);
+    }
+    if !listed(p) {
+        return Reply::Refused(Refusal::Unlisted);
+    }
+    let size = registers::size(p);
+    if lent.len() < size {
+        return Reply::Refused(Refusal::BufferTooShort);
+    }
+    Reply::Done(size)
+}
+
+// Questions 1, 2, 3, 4, 6 and 7, of a write.
+pub fn write_reply(s: Shared, p: Place, bytes: &[u8]) -> Reply
+    ensures { λ r. ⌜ r ≡ writeReply s (placed p) (now (bytes .entry)) ⌝ }
+{
+    if !within(p) {
+        return Reply::Refused(Refusal::Beyond);
+    }
+    if !listed(p) {
+        return Reply::Refused(Refusal::Unlisted);
+    }
+    if !writable(p) {
+        return Reply::Refused(Refusal::NotWritable);
+    }
+    if !exact(p, bytes) {
+        return Reply::Refused(Refusal::WrongLength);
+    }
+    if !enabled(s, p) {
+        return Reply::Refused(Refusal::NotEnabled);
+    }
+    if !values::allowed(p, bytes) {
+        return Reply::Refused(Refusal::NotAllowed);
+    }
+    Reply::Done(0)
+}
+
+// 8. Channel 1 to 16?
+fn is_digital(k: u8) -> bool
+    ensures { λ b. ⌜ b ≡ digital k ⌝ }
+{
+    (1 <= k) & (k <= 16)
+}
+
+pub fn level_reply(k: u8) -> Reply
+    ensures { λ r. ⌜ r ≡ levelReply k ⌝ }
+{
+    if !is_digital(k) {
+        return Reply::Refused(Refusal::NoChannel);
+    }
+    Reply::Done(0)
+}
+
+// Questions 8 and 9.
+pub fn current_reply(k: u8, x: f32) -> Reply
+    ensures { λ r. ⌜ r ≡ currentReply k x ⌝ }
+{
+    if !is_digital(k) {
+        return Reply::Refused(Refusal::NoChannel);
+    }
+    if !reals::is_finite(x) {
+        return Reply::Refused(Refusal::NotFinite);
+    }
+    Reply::Done(0)
+}
