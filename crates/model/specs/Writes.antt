@@ -141,12 +141,15 @@ digitalWritten UserReals s bs ch = withReals bs ch
 digitalWritten Maintenance s bs ch = withMaintenance bs ch
 digitalWritten ChError s bs ch = ch
 
--- ---- a common register, at the channel of bit i
+-- ---- a common register: what its bit does to its channel, and bit i of the two bytes
+abbrev pub bitWritten : CommonRegister → Bool → Channel → Channel
+bitWritten OutFlags b ch = outFlagsWritten b ch
+bitWritten InFlags b ch = simulate b ch
+bitWritten IOChError b ch = ch
+bitWritten CommonChError b ch = ch
+
 unfoldable pub commonWritten : CommonRegister → List ℕ → ℕ → Channel → Channel
-commonWritten OutFlags bs i ch = outFlagsWritten (bit i (number bs)) ch
-commonWritten InFlags bs i ch = simulate (bit i (number bs)) ch
-commonWritten IOChError bs i ch = ch
-commonWritten CommonChError bs i ch = ch
+commonWritten r bs i ch = bitWritten r (bit i (number bs)) ch
 
 -- each channel with its place, from place i on
 abbrev pub each : (ℕ → Channel → Channel) → ℕ → List Channel → List Channel

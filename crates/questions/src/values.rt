@@ -12,7 +12,7 @@ use numbers::reals;
 use numbers::written;
 use registers::Place;
 
-pub(crate) fn real_from(bytes: &[u8]) -> f32
+pub fn real_from(bytes: &[u8]) -> f32
     requires { ⌜ length (now bytes) ≡ 4 ⌝ }
     ensures { λ r. ⌜ r ≡ realFrom (now (bytes .entry)) ⌝ }
 {
@@ -93,7 +93,7 @@ fn digital_allowed(r: DigitalRegister, bytes: &[u8]) -> bool
     }
 }
 
-pub(crate) fn allowed(p: Place, bytes: &[u8]) -> bool
+pub fn allowed(p: Place, bytes: &[u8]) -> bool
     requires { ⌜ length (now bytes) ≡ size (placed p) ⌝ }
     ensures { λ b. ⌜ b ≡ allowed (placed p) (now (bytes .entry)) ⌝ }
 {

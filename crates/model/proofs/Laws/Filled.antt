@@ -3,11 +3,13 @@
 use mathlib.Core.Path.{_≡_, refl, sym, ap, ap₂, _∙_}
 use mathlib.Core.Bool.{Bool, true, false, cond}
 use mathlib.Core.List.{List, [], _∷_, map}
-use Prim.Native.Nat.{ℕ, zero, suc, _<_}
+use Prim.Native.Nat.{ℕ, zero, suc, _+_, _<_}
 use native.Mathlib.Nat.{le-of-suc-le-suc, not-suc-le-zero, zero-lt-suc}
 use native.Mathlib.Omega.{arith}
 use lib.Dec.{ltb, leb}
 use lib.ListN.{length, getD, set}
+use Rattle.model.specs.declared.Channel.{Channel}
+use Rattle.model.specs.Writes.{each}
 use borrow.Author.Tests.{ltb-true, ltb-false, leb-true, leb-false, lt-ltb, le-ltb, le-leb, lt-leb}
 
 -- ys, with g of the place and of its element of xs where the place is done
@@ -88,3 +90,15 @@ down k j n = go (from (suc k) j) refl
     go : (b : Bool) → from (suc k) j ≡ b → b ≡ from k j
     go true e = let l = leb-true (suc k) j e in sym (le-leb k j (omega arith))
     go false e = let l = leb-false (suc k) j e in sym (lt-leb k j (omega arith))
+
+-- where what is done depends on the place, `each` names the whole
+pub all-each : (f g : ℕ → Channel → Channel) (p : ℕ → Bool) (i : ℕ) (xs ys : List Channel) → length xs ≡ length ys → ((j : ℕ) → j < length xs → p j ≡ true)
+    → ((j : ℕ) → g j ≡ f (i + j)) → filled p g xs ys ≡ each f i xs
+unfolding filled
+all-each f g p i [] [] s e q = refl
+all-each f g p i [] (y ∷ ys) s e q = absurd (omega (arith, s))
+all-each f g p i (x ∷ xs) [] s e q = absurd (omega (arith, s))
+all-each f g p i (x ∷ xs) (y ∷ ys) s e q =
+    let h : g 0 ≡ f i = q 0 ∙ ap f (omega arith) in
+    ap₂ (λ (c : Channel) (r : List Channel). c ∷ r) (ap (λ (b : Bool). cond b (g 0 x) y) (e 0 (zero-lt-suc _)) ∙ ap (λ (k : Channel → Channel). k x) h)
+    (all-each f (λ (j : ℕ). g (suc j)) (λ (j : ℕ). p (suc j)) (suc i) xs ys (omega (arith, s)) (λ j l. e (suc j) (omega arith)) (λ j. q (suc j) ∙ ap f (omega arith)))
