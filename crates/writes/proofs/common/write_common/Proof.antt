@@ -12,7 +12,7 @@ use Rattle.integers.specs.Bytes.{number}
 use Rattle.model.specs.declared.Channel.{Channel}
 use Rattle.model.specs.Writes.{commonWritten}
 use Rattle.model.proofs.Laws.Filled.{filled, none, one-more, untouched, all-each, below, up}
-use Rattle.writes.proofs.Laws.{halved}
+use Rattle.writes.proofs.Laws.Values.{halved}
 use Rattle.writes.proofs.common.write_common.Statement.{statement}
 use Rattle.writes.proofs.common.write_common.Tie as tie
 

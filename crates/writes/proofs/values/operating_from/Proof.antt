@@ -1,7 +1,7 @@
 -- `values::operating_from` meets its contract. Assumes nothing.
 use borrow.Author.Needs.{needs}
 use mathlib.Core.Path.{ap, _∙_}
-use Rattle.writes.proofs.Laws.{operating-value, operating-inside}
+use Rattle.writes.proofs.Laws.Values.{operating-value, operating-inside}
 use Rattle.numbers.specs.Written.{operatingAllowed, operatingWritten}
 use Rattle.numbers.specs.Reals.{realFrom}
 use Rattle.writes.proofs.values.operating_from.Statement.{statement}

@@ -1,7 +1,7 @@
 -- `values::timer_from` meets its contract. Assumes nothing.
 use borrow.Author.Needs.{needs}
 use mathlib.Core.Path.{ap, _∙_}
-use Rattle.writes.proofs.Laws.{timer-value, timer-inside}
+use Rattle.writes.proofs.Laws.Values.{timer-value, timer-inside}
 use Rattle.numbers.specs.Written.{timerAllowed, timerWritten}
 use Rattle.numbers.specs.Reals.{realFrom}
 use Rattle.writes.proofs.values.timer_from.Statement.{statement}
