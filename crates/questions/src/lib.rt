@@ -90,10 +90,12 @@ pub fn write_reply(s: Shared, p: Place, bytes: &[u8]) -> Reply
     if !writable(p) {
         return Reply::Refused(Refusal::NotWritable);
     }
-    if !exact(p, bytes) {
+    let sized = exact(p, bytes);
+    let open = enabled(s, p);
+    if !sized {
         return Reply::Refused(Refusal::WrongLength);
     }
-    if !enabled(s, p) {
+    if !open {
         return Reply::Refused(Refusal::NotEnabled);
     }
     if !values::allowed(p, bytes) {

@@ -30,27 +30,27 @@ returns-3 c = simp (sym (c .before .writable .ensures) ∙ not-true _ (c .if3 .t
 exact-requires : tie.Need-exact-requires
 exact-requires c κs = search needs
 
-returns-4 : tie.Need-returns-4
-unfolding writeReply
-returns-4 c = simp (sym (c .before .exact .ensures) ∙ not-true _ (c .if4 .taken), sym (c .before .before .before .writable .ensures) ∙ not-false _ (c .before .before .if3 .left), sym (c .before .before .before .before .before .listed .ensures) ∙ not-false _ (c .before .before .before .before .if2 .left), sym (c .before .before .before .before .before .before .before .within .ensures) ∙ not-false _ (c .before .before .before .before .before .before .if1 .left))
-
 enabled-requires : tie.Need-enabled-requires
 enabled-requires c κs = search needs
 
+returns-4 : tie.Need-returns-4
+unfolding writeReply
+returns-4 c = simp (sym (c .before .before .exact .ensures) ∙ not-true _ (c .if4 .taken), sym (c .before .before .before .before .writable .ensures) ∙ not-false _ (c .before .before .before .if3 .left), sym (c .before .before .before .before .before .before .listed .ensures) ∙ not-false _ (c .before .before .before .before .before .if2 .left), sym (c .before .before .before .before .before .before .before .before .within .ensures) ∙ not-false _ (c .before .before .before .before .before .before .before .if1 .left))
+
 returns-5 : tie.Need-returns-5
 unfolding writeReply
-returns-5 c = simp (sym (c .before .enabled .ensures) ∙ not-true _ (c .if5 .taken), sym (c .before .before .before .exact .ensures) ∙ not-false _ (c .before .before .if4 .left), sym (c .before .before .before .before .before .writable .ensures) ∙ not-false _ (c .before .before .before .before .if3 .left), sym (c .before .before .before .before .before .before .before .listed .ensures) ∙ not-false _ (c .before .before .before .before .before .before .if2 .left), sym (c .before .before .before .before .before .before .before .before .before .within .ensures) ∙ not-false _ (c .before .before .before .before .before .before .before .before .if1 .left))
+returns-5 c = simp (sym (c .before .before .enabled .ensures) ∙ not-true _ (c .if5 .taken), sym (c .before .before .before .exact .ensures) ∙ not-false _ (c .before .if4 .left), sym (c .before .before .before .before .before .writable .ensures) ∙ not-false _ (c .before .before .before .before .if3 .left), sym (c .before .before .before .before .before .before .before .listed .ensures) ∙ not-false _ (c .before .before .before .before .before .before .if2 .left), sym (c .before .before .before .before .before .before .before .before .before .within .ensures) ∙ not-false _ (c .before .before .before .before .before .before .before .before .if1 .left))
 
 allowed-requires : tie.Need-allowed-requires
-allowed-requires c κs = eqb-true _ _ (sym (c .before .before .before .exact .ensures) ∙ not-false _ (c .before .before .if4 .left))
+allowed-requires c κs = eqb-true _ _ (sym (c .before .before .before .exact .ensures) ∙ not-false _ (c .before .if4 .left))
 
 returns-6 : tie.Need-returns-6
 unfolding writeReply
-returns-6 c = simp (sym (c .before .allowed .ensures) ∙ not-true _ (c .if6 .taken), sym (c .before .before .before .enabled .ensures) ∙ not-false _ (c .before .before .if5 .left), sym (c .before .before .before .before .before .exact .ensures) ∙ not-false _ (c .before .before .before .before .if4 .left), sym (c .before .before .before .before .before .before .before .writable .ensures) ∙ not-false _ (c .before .before .before .before .before .before .if3 .left), sym (c .before .before .before .before .before .before .before .before .before .listed .ensures) ∙ not-false _ (c .before .before .before .before .before .before .before .before .if2 .left), sym (c .before .before .before .before .before .before .before .before .before .before .before .within .ensures) ∙ not-false _ (c .before .before .before .before .before .before .before .before .before .before .if1 .left))
+returns-6 c = simp (sym (c .before .allowed .ensures) ∙ not-true _ (c .if6 .taken), sym (c .before .before .before .before .enabled .ensures) ∙ not-false _ (c .before .before .if5 .left), sym (c .before .before .before .before .before .exact .ensures) ∙ not-false _ (c .before .before .before .if4 .left), sym (c .before .before .before .before .before .before .before .writable .ensures) ∙ not-false _ (c .before .before .before .before .before .before .if3 .left), sym (c .before .before .before .before .before .before .before .before .before .listed .ensures) ∙ not-false _ (c .before .before .before .before .before .before .before .before .if2 .left), sym (c .before .before .before .before .before .before .before .before .before .before .before .within .ensures) ∙ not-false _ (c .before .before .before .before .before .before .before .before .before .before .if1 .left))
 
 returns-7 : tie.Need-returns-7
 unfolding writeReply
-returns-7 c = simp (sym (c .before .allowed .ensures) ∙ not-false _ (c .if6 .left), sym (c .before .before .before .enabled .ensures) ∙ not-false _ (c .before .before .if5 .left), sym (c .before .before .before .before .before .exact .ensures) ∙ not-false _ (c .before .before .before .before .if4 .left), sym (c .before .before .before .before .before .before .before .writable .ensures) ∙ not-false _ (c .before .before .before .before .before .before .if3 .left), sym (c .before .before .before .before .before .before .before .before .before .listed .ensures) ∙ not-false _ (c .before .before .before .before .before .before .before .before .if2 .left), sym (c .before .before .before .before .before .before .before .before .before .before .before .within .ensures) ∙ not-false _ (c .before .before .before .before .before .before .before .before .before .before .if1 .left))
+returns-7 c = simp (sym (c .before .allowed .ensures) ∙ not-false _ (c .if6 .left), sym (c .before .before .before .before .enabled .ensures) ∙ not-false _ (c .before .before .if5 .left), sym (c .before .before .before .before .before .exact .ensures) ∙ not-false _ (c .before .before .before .if4 .left), sym (c .before .before .before .before .before .before .before .writable .ensures) ∙ not-false _ (c .before .before .before .before .before .before .if3 .left), sym (c .before .before .before .before .before .before .before .before .before .listed .ensures) ∙ not-false _ (c .before .before .before .before .before .before .before .before .if2 .left), sym (c .before .before .before .before .before .before .before .before .before .before .before .within .ensures) ∙ not-false _ (c .before .before .before .before .before .before .before .before .before .before .if1 .left))
 
 pub write-reply-spec : {M : Type 1} → statement M
 write-reply-spec =
@@ -63,8 +63,8 @@ write-reply-spec =
     writable-requires
     returns-3
     exact-requires
-    returns-4
     enabled-requires
+    returns-4
     returns-5
     allowed-requires
     returns-6
