@@ -5,7 +5,7 @@ ghost use Rattle.model.specs.Settings.{digital};
 ghost use Rattle.model.specs.Questions.{question1, question2, question3, question4, question6, readReply, writeReply, levelReply, currentReply};
 ghost use Rattle.registers.specs.Places.{placed};
 
-pub mod values;
+mod values;
 
 use model::Refusal;
 use model::Reply;

@@ -1,9 +1,7 @@
 // Question 7: which bytes each register allows. The length of the bytes is asked before.
 ghost use mathlib.Core.Path.{_≡_};
 ghost use lib.ListN.{length};
-ghost use Rattle.numbers.specs.Reals.{realFrom};
 ghost use Rattle.model.specs.Registers.{serviceRow, digitalRow, size};
-ghost use Rattle.model.specs.Image.{functionAllowed, configAllowed, moduleConfigAllowed};
 ghost use Rattle.model.specs.Writes.{allZero, serviceAllowed, digitalAllowed, allowed};
 ghost use Rattle.registers.specs.Places.{placed};
 use model::DigitalRegister;
@@ -11,37 +9,6 @@ use model::ServiceRegister;
 use numbers::reals;
 use numbers::written;
 use registers::Place;
-
-pub fn real_from(bytes: &[u8]) -> f32
-    requires { ⌜ length (now bytes) ≡ 4 ⌝ }
-    ensures { λ r. ⌜ r ≡ realFrom (now (bytes .entry)) ⌝ }
-{
-    reals::of_bytes(bytes[0], bytes[1], bytes[2], bytes[3])
-}
-
-fn function_allowed(n: u8) -> bool
-    ensures { λ r. ⌜ r ≡ functionAllowed n ⌝ }
-{
-    (n == 0) | ((n == 0x10) | ((n == 0x20) | ((n == 0x30) | (n == 0x50))))
-}
-
-fn config_allowed(bytes: &[u8]) -> bool
-    requires { ⌜ length (now bytes) ≡ 4 ⌝ }
-    ensures { λ r. ⌜ r ≡ configAllowed (now (bytes .entry)) ⌝ }
-{
-    let a = bytes[2];
-    let b = bytes[3];
-    function_allowed(bytes[1]) & ((a <= 16) & (b <= 16))
-}
-
-// Enablebit and the references of ModuleConfig are not used, and take any byte.
-fn module_config_allowed(bytes: &[u8]) -> bool
-    requires { ⌜ length (now bytes) ≡ 4 ⌝ }
-    ensures { λ r. ⌜ r ≡ moduleConfigAllowed (now (bytes .entry)) ⌝ }
-{
-    let n = bytes[1];
-    (n == 0) | (n == 0x10)
-}
 
 fn all_zero(bytes: &[u8]) -> bool
     ensures { λ r. ⌜ r ≡ allZero (now (bytes .entry)) ⌝ }
@@ -62,9 +29,9 @@ fn service_allowed(r: ServiceRegister, bytes: &[u8]) -> bool
         ServiceRegister::Highest => true,
         ServiceRegister::Reset => bytes[0] == 0xFF,
         ServiceRegister::FreeRunTimer => true,
-        ServiceRegister::WDTimer => written::preset_allowed(real_from(bytes)),
-        ServiceRegister::ModuleConfig => module_config_allowed(bytes),
-        ServiceRegister::WDPreset => written::preset_allowed(real_from(bytes)),
+        ServiceRegister::WDTimer => written::preset_allowed(fields::real_from(bytes)),
+        ServiceRegister::ModuleConfig => fields::module_config_allowed(bytes),
+        ServiceRegister::WDPreset => written::preset_allowed(fields::real_from(bytes)),
         ServiceRegister::WriteEnable => bytes[0] <= 1,
         ServiceRegister::CommonError => all_zero(bytes),
     }
@@ -76,24 +43,24 @@ fn digital_allowed(r: DigitalRegister, bytes: &[u8]) -> bool
 {
     match r {
         DigitalRegister::FlagReg => true,
-        DigitalRegister::OutTimer => written::timer_allowed(real_from(bytes)),
+        DigitalRegister::OutTimer => written::timer_allowed(fields::real_from(bytes)),
         DigitalRegister::Counter => true,
-        DigitalRegister::OutCurrent => reals::is_finite(real_from(bytes)),
-        DigitalRegister::OperatingTime => written::operating_allowed(real_from(bytes)),
+        DigitalRegister::OutCurrent => reals::is_finite(fields::real_from(bytes)),
+        DigitalRegister::OperatingTime => written::operating_allowed(fields::real_from(bytes)),
         DigitalRegister::UserBytes => true,
-        DigitalRegister::FBTimer => written::timer_allowed(real_from(bytes)),
-        DigitalRegister::FBPreset => written::preset_allowed(real_from(bytes)),
-        DigitalRegister::OutPreset => written::preset_allowed(real_from(bytes)),
-        DigitalRegister::ChConfig => config_allowed(bytes),
-        DigitalRegister::MinCurrent => written::limit_allowed(real_from(bytes)),
-        DigitalRegister::MaxCurrent => written::limit_allowed(real_from(bytes)),
+        DigitalRegister::FBTimer => written::timer_allowed(fields::real_from(bytes)),
+        DigitalRegister::FBPreset => written::preset_allowed(fields::real_from(bytes)),
+        DigitalRegister::OutPreset => written::preset_allowed(fields::real_from(bytes)),
+        DigitalRegister::ChConfig => fields::config_allowed(bytes),
+        DigitalRegister::MinCurrent => written::limit_allowed(fields::real_from(bytes)),
+        DigitalRegister::MaxCurrent => written::limit_allowed(fields::real_from(bytes)),
         DigitalRegister::UserReals => true,
         DigitalRegister::Maintenance => true,
         DigitalRegister::ChError => true,
     }
 }
 
-pub fn allowed(p: Place, bytes: &[u8]) -> bool
+pub(crate) fn allowed(p: Place, bytes: &[u8]) -> bool
     requires { ⌜ length (now bytes) ≡ size (placed p) ⌝ }
     ensures { λ b. ⌜ b ≡ allowed (placed p) (now (bytes .entry)) ⌝ }
 {

@@ -2,7 +2,6 @@
 ghost use mathlib.Core.Path.{_≡_};
 ghost use lib.ListN.{length};
 ghost use Rattle.model.specs.Writes.{bitWritten, commonWritten, each};
-use crate::values;
 use model::Channel;
 use model::CommonRegister;
 
@@ -22,7 +21,7 @@ pub(crate) fn write_common(r: CommonRegister, b: &[u8], channels: [Channel; 16])
     ensures { λ next. ⌜ next ≡ each (commonWritten r (now (b .entry))) 0 channels ⌝ }
 {
     let mut next = channels;
-    let mut rest = values::word_from(b);
+    let mut rest = fields::word_from(b);
     for k in 0..16 {
         let ch = next[k];
         let after = write_bit(r, rest % 2 == 1, ch);

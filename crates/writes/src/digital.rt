@@ -13,7 +13,6 @@ use counts::TimerCount;
 use model::Channel;
 use model::DigitalRegister;
 use model::Shared;
-use questions::values::real_from;
 
 fn set_out_timer(t: TimerCount, ch: Channel) -> Channel
     ensures { λ r. ⌜ r ≡ setOutTimer t ch ⌝ }
@@ -128,18 +127,18 @@ pub(crate) fn write_digital(r: DigitalRegister, s: Shared, b: &[u8], ch: Channel
     match r {
         DigitalRegister::FlagReg => channel::write_flag_reg(b[0], ch),
         DigitalRegister::OutTimer => set_out_timer(values::timer_from(b), ch),
-        DigitalRegister::Counter => write_counter(s.enabled, values::signed_from(b), ch),
-        DigitalRegister::OutCurrent => channel::take_current(s, real_from(b), ch),
+        DigitalRegister::Counter => write_counter(s.enabled, fields::signed_from(b), ch),
+        DigitalRegister::OutCurrent => channel::take_current(s, fields::real_from(b), ch),
         DigitalRegister::OperatingTime => write_operating(s.enabled, values::operating_from(b), ch),
-        DigitalRegister::UserBytes => write_user(s.enabled, values::four_from(b), ch),
+        DigitalRegister::UserBytes => write_user(s.enabled, fields::four_from(b), ch),
         DigitalRegister::FBTimer => set_feedback_timer(values::timer_from(b), ch),
         DigitalRegister::FBPreset => set_feedback_preset(values::preset_from(b), ch),
         DigitalRegister::OutPreset => set_out_preset(values::preset_from(b), ch),
-        DigitalRegister::ChConfig => channel::write_config(values::config_from(b), ch),
-        DigitalRegister::MinCurrent => set_min_current(real_from(b), ch),
-        DigitalRegister::MaxCurrent => set_max_current(real_from(b), ch),
-        DigitalRegister::UserReals => set_reals(values::eight_from(b), ch),
-        DigitalRegister::Maintenance => set_maintenance(values::four_from(b), ch),
+        DigitalRegister::ChConfig => channel::write_config(fields::config_from(b), ch),
+        DigitalRegister::MinCurrent => set_min_current(fields::real_from(b), ch),
+        DigitalRegister::MaxCurrent => set_max_current(fields::real_from(b), ch),
+        DigitalRegister::UserReals => set_reals(fields::eight_from(b), ch),
+        DigitalRegister::Maintenance => set_maintenance(fields::four_from(b), ch),
         DigitalRegister::ChError => ch,
     }
 }

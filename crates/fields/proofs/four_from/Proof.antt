@@ -1,9 +1,9 @@
--- `values::four_from` meets its contract. Assumes nothing.
+-- `four_from` meets its contract. Assumes nothing.
 use borrow.Author.Needs.{needs}
 use mathlib.Core.Path.{sym}
 use Rattle.model.proofs.Laws.Elements.{whole}
-use Rattle.writes.proofs.values.four_from.Statement.{statement}
-use Rattle.writes.proofs.values.four_from.Tie as tie
+use Rattle.fields.proofs.four_from.Statement.{statement}
+use Rattle.fields.proofs.four_from.Tie as tie
 
 shared-slice-read-t3 : tie.Need-shared-slice-read-t3
 shared-slice-read-t3 c = search needs

@@ -1,10 +1,10 @@
--- `values::real_from` meets its contract. Assumes nothing.
+-- `real_from` meets its contract. Assumes nothing.
 use borrow.Author.Needs.{needs}
 use mathlib.Core.Path.{sym, ap, _∙_}
 use Rattle.model.proofs.Laws.Elements.{whole}
 use Rattle.numbers.specs.Reals.{realFrom}
-use Rattle.questions.proofs.values.real_from.Statement.{statement}
-use Rattle.questions.proofs.values.real_from.Tie as tie
+use Rattle.fields.proofs.real_from.Statement.{statement}
+use Rattle.fields.proofs.real_from.Tie as tie
 
 shared-slice-read-of-bytes : tie.Need-shared-slice-read-of-bytes
 shared-slice-read-of-bytes c = search needs
@@ -24,7 +24,7 @@ of-bytes-requires c κs = search needs
 returns : tie.Need-returns
 returns c =
     let s = c .before .before .before .before .before .before in
-    c .of-bytes .ensures ∙ ap realFrom (sym (whole 4 (s .args .bytes .now) (s .pre)))
+    c .of-bytes .ensures ∙ ap realFrom (sym (whole 4 (s .args .b .now) (s .pre)))
 
 pub real-from-spec : {M : Type 1} → statement M
 real-from-spec =

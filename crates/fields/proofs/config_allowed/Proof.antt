@@ -1,8 +1,8 @@
--- `values::config_allowed` meets its contract. Assumes nothing.
+-- `config_allowed` meets its contract. Assumes nothing.
 use borrow.Author.Needs.{needs}
 use Rattle.model.specs.Image.{configAllowed}
-use Rattle.questions.proofs.values.config_allowed.Statement.{statement}
-use Rattle.questions.proofs.values.config_allowed.Tie as tie
+use Rattle.fields.proofs.config_allowed.Statement.{statement}
+use Rattle.fields.proofs.config_allowed.Tie as tie
 
 shared-slice-read-a : tie.Need-shared-slice-read-a
 shared-slice-read-a c = search needs

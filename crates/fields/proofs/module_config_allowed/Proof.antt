@@ -1,9 +1,9 @@
--- `values::module_config_allowed` meets its contract. Assumes nothing.
+-- `module_config_allowed` meets its contract. Assumes nothing.
 use borrow.Author.Needs.{needs}
 use mathlib.Core.Path.{refl}
 use Rattle.model.specs.Image.{moduleConfigAllowed}
-use Rattle.questions.proofs.values.module_config_allowed.Statement.{statement}
-use Rattle.questions.proofs.values.module_config_allowed.Tie as tie
+use Rattle.fields.proofs.module_config_allowed.Statement.{statement}
+use Rattle.fields.proofs.module_config_allowed.Tie as tie
 
 shared-slice-read-n : tie.Need-shared-slice-read-n
 shared-slice-read-n c = search needs

@@ -1,9 +1,9 @@
--- `values::eight_from` meets its contract. Assumes nothing.
+-- `eight_from` meets its contract. Assumes nothing.
 use borrow.Author.Needs.{needs}
 use mathlib.Core.Path.{sym}
 use Rattle.model.proofs.Laws.Elements.{whole}
-use Rattle.writes.proofs.values.eight_from.Statement.{statement}
-use Rattle.writes.proofs.values.eight_from.Tie as tie
+use Rattle.fields.proofs.eight_from.Statement.{statement}
+use Rattle.fields.proofs.eight_from.Tie as tie
 
 shared-slice-read-t3 : tie.Need-shared-slice-read-t3
 shared-slice-read-t3 c = search needs

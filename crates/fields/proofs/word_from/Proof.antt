@@ -1,10 +1,10 @@
--- `values::word_from` meets its contract. Assumes nothing.
+-- `word_from` meets its contract. Assumes nothing.
 use borrow.Author.Needs.{needs}
 use mathlib.Core.Path.{sym, ap, _∙_}
 use Rattle.model.proofs.Laws.Elements.{whole}
 use Rattle.integers.specs.Bytes.{number}
-use Rattle.writes.proofs.values.word_from.Statement.{statement}
-use Rattle.writes.proofs.values.word_from.Tie as tie
+use Rattle.fields.proofs.word_from.Statement.{statement}
+use Rattle.fields.proofs.word_from.Tie as tie
 
 shared-slice-read-u16-of-bytes : tie.Need-shared-slice-read-u16-of-bytes
 shared-slice-read-u16-of-bytes c = search needs

@@ -1,12 +1,12 @@
--- `values::signed_from` meets its contract. Assumes nothing.
+-- `signed_from` meets its contract. Assumes nothing.
 use borrow.Author.Needs.{needs}
 use mathlib.Core.Path.{sym, ap, _∙_}
 use mir.Facts.{toZ-ofZ}
 use mir.Syntax.{w32}
 use Rattle.model.proofs.Laws.Elements.{whole}
 use Rattle.integers.specs.Bytes.{signedNumber}
-use Rattle.writes.proofs.values.signed_from.Statement.{statement}
-use Rattle.writes.proofs.values.signed_from.Tie as tie
+use Rattle.fields.proofs.signed_from.Statement.{statement}
+use Rattle.fields.proofs.signed_from.Tie as tie
 
 shared-slice-read-i32-of-bytes : tie.Need-shared-slice-read-i32-of-bytes
 shared-slice-read-i32-of-bytes c = search needs
