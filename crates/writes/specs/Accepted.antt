@@ -2,23 +2,16 @@
 use mathlib.Core.Path.{_≡_}
 use mathlib.Core.Bool.{true}
 use mathlib.Core.List.{List}
-use Prim.Native.Nat.{ℕ, _≤_}
+use Prim.Native.Nat.{ℕ}
 use lib.ListN.{length}
 use Rattle.model.specs.declared.Module.{Module}
 use Rattle.model.specs.declared.Reply.{Reply}
 use Rattle.model.specs.declared.Reply.the-variants.{Done, Refused}
-use Rattle.model.specs.Registers.{Place, service, digital, common, unlisted, beyond, place, size}
+use Rattle.model.specs.Registers.{Place, place, size}
 use Rattle.model.specs.Questions.{question3, writeReply}
 use Rattle.model.specs.Writes.{allowed, written}
+use Rattle.registers.specs.Places.{Within}
 use Rattle.writes.specs.declared.Written.{Written}
-
--- a place of a digital channel is one of channels 1 to 16
-abbrev pub Within : Place → Type 0
-Within (service r) = Unit {0}
-Within (digital k r) = (1 ≤ k) × (k ≤ 16)
-Within (common r) = Unit {0}
-Within unlisted = Unit {0}
-Within beyond = Unit {0}
 
 -- what the effect of a write rests on: the answers to questions 3, 4 and 7
 abbrev pub Accepted : Place → List ℕ → Type 0

@@ -4,7 +4,6 @@ ghost use mathlib.Core.Path.{_≡_};
 ghost use mathlib.Core.Bool.{true};
 ghost use mathlib.Core.List.{map};
 ghost use lib.ListN.{length};
-ghost use Rattle.model.specs.Errors.{serviceAcknowledged};
 ghost use Rattle.model.specs.Registers.{serviceRow};
 ghost use Rattle.model.specs.Writes.{setConfig, setPreset, setWriteEnable, serviceAllowed, sharedWritten, errorsWritten, everyWritten, serviceWritten};
 use crate::reset;
@@ -57,16 +56,6 @@ fn write_shared(r: ServiceRegister, b: &[u8], s: Shared) -> Shared
     }
 }
 
-// His := Act.
-fn acknowledge_service(v: Service) -> Service
-    ensures { λ r. ⌜ r ≡ serviceAcknowledged v ⌝ }
-{
-    let act = v.act;
-    let mut next = v;
-    next.his = act;
-    next
-}
-
 fn write_errors(r: ServiceRegister, v: Service) -> Service
     ensures { λ next. ⌜ next ≡ errorsWritten r v ⌝ }
 {
@@ -78,7 +67,7 @@ fn write_errors(r: ServiceRegister, v: Service) -> Service
         ServiceRegister::ModuleConfig => v,
         ServiceRegister::WDPreset => v,
         ServiceRegister::WriteEnable => v,
-        ServiceRegister::CommonError => acknowledge_service(v),
+        ServiceRegister::CommonError => errors::acknowledge_service(v),
     }
 }
 

@@ -16,8 +16,7 @@ use Rattle.model.specs.declared.Shared.{Shared}
 use Rattle.model.specs.Registers.{Place, common, place, size}
 use Rattle.model.specs.Questions.{question1, question2, question3, question4, question6, question7, writeReply}
 use Rattle.model.specs.Writes.{allowed}
-use Rattle.model.proofs.Laws.Places.{place-cases}
-use Rattle.writes.specs.Accepted.{Within, effect, writeOf}
+use Rattle.writes.specs.Accepted.{effect, writeOf}
 
 -- a question that is asked before what is done is answered yes
 yes : (b : Bool) (x : Reply) (r : Refusal) (n : ℕ) → cond b x (Refused r) ≡ Done n → (b ≡ true) × (x ≡ Done n)
@@ -34,10 +33,6 @@ accepted s p bs n e =
     let a₆ = yes (question6 s p) _ _ n (a₄ .1) in
     let a₇ = yes (question7 p bs) _ _ n (a₆ .1) in
     (a₃ .0, eqb-true _ _ (a₄ .0), a₇ .0)
-
--- a SWNo of a digital channel is of channel 1 to 16
-pub within : (n : ℕ) → Within (place n)
-within n = place-cases Within n tt tt (λ e r. tt) (λ e r. tt) (λ l h r e. (l, h))
 
 -- the common registers that can be written have two bytes
 pub two-bytes : (r : CommonRegister) (bs : List ℕ) → question3 (common r) ≡ true → length bs ≡ size (common r) → length bs ≡ 2

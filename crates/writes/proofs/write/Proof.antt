@@ -2,9 +2,10 @@
 use mathlib.Core.Path.{sym, ap, subst, _∙_}
 use borrow.Author.Needs.{needs}
 use Rattle.model.specs.declared.Reply.{Reply}
-use Rattle.registers.specs.Places.{placed}
-use Rattle.writes.specs.Accepted.{Within, effect}
-use Rattle.writes.proofs.Laws.Accepted.{accepted, within, answered}
+use Rattle.registers.specs.Places.{placed, Within}
+use Rattle.registers.proofs.Laws.{within}
+use Rattle.writes.specs.Accepted.{effect}
+use Rattle.writes.proofs.Laws.Accepted.{accepted, answered}
 use Rattle.writes.proofs.write.Statement.{statement}
 use Rattle.writes.proofs.write.Tie as tie
 

@@ -1,8 +1,8 @@
--- `service::acknowledge_service` meets its contract. Assumes nothing.
+-- `acknowledge_service` meets its contract. Assumes nothing.
 use mathlib.Core.Path.{refl}
 use Rattle.model.specs.Errors.{serviceAcknowledged}
-use Rattle.writes.proofs.service.acknowledge_service.Statement.{statement}
-use Rattle.writes.proofs.service.acknowledge_service.Tie as tie
+use Rattle.errors.proofs.acknowledge_service.Statement.{statement}
+use Rattle.errors.proofs.acknowledge_service.Tie as tie
 
 returns : tie.Need-returns
 unfolding serviceAcknowledged

@@ -1,0 +1,3 @@
+-- Laws that belong to no one function, and what reading leaves of the whole box.
+pub mod Laws
+pub mod Left
