@@ -2,7 +2,7 @@
 -- Facts/Steps. Assumes nothing.
 pub mod Steps
 use mathlib.Core.Path.{_≡_, refl, ap}
-use mathlib.Core.Bool.{false}
+use mathlib.Core.Bool.{Bool, false}
 use mathlib.Core.List.{List, [], _∷_, map}
 use Prim.Native.Nat.{ℕ, _+_}
 use lib.ListN.{length}
@@ -104,24 +104,30 @@ size-service WDPreset m = refl
 size-service WriteEnable m = refl
 size-service CommonError m = refl
 
+-- a channel's register has the size of its row, where the user bytes have theirs
+pub digital-size : (r : DigitalRegister) (levels : List Bool) (ch : Channel) → length (ch .user) ≡ 4 → length (ch .reals) ≡ 8 → length (ch .maintenance) ≡ 4 →
+    length (Reads.digitalBytes r levels ch) ≡ size (digital 1 r)
+unfolding Reads.digitalBytes Bytes.bytesOf Bytes.signedBytes Reals.realBytes
+digital-size FlagReg levels ch u x t = refl
+digital-size OutTimer levels ch u x t = refl
+digital-size Counter levels ch u x t = refl
+digital-size OutCurrent levels ch u x t = refl
+digital-size OperatingTime levels ch u x t = refl
+digital-size UserBytes levels ch u x t = u
+digital-size FBTimer levels ch u x t = refl
+digital-size FBPreset levels ch u x t = refl
+digital-size OutPreset levels ch u x t = refl
+digital-size ChConfig levels ch u x t = refl
+digital-size MinCurrent levels ch u x t = refl
+digital-size MaxCurrent levels ch u x t = refl
+digital-size UserReals levels ch u x t = x
+digital-size Maintenance levels ch u x t = t
+digital-size ChError levels ch u x t = refl
+
 size-digital : (k : ℕ) (r : DigitalRegister) (m : Module) → length (channelAt m k .user) ≡ 4 → length (channelAt m k .reals) ≡ 8 → length (channelAt m k .maintenance) ≡ 4 →
     length (bytesRead (digital k r) m) ≡ size (digital k r)
-unfolding bytesRead Reads.digitalBytes Bytes.bytesOf Bytes.signedBytes Reals.realBytes
-size-digital k FlagReg m u x t = refl
-size-digital k OutTimer m u x t = refl
-size-digital k Counter m u x t = refl
-size-digital k OutCurrent m u x t = refl
-size-digital k OperatingTime m u x t = refl
-size-digital k UserBytes m u x t = u
-size-digital k FBTimer m u x t = refl
-size-digital k FBPreset m u x t = refl
-size-digital k OutPreset m u x t = refl
-size-digital k ChConfig m u x t = refl
-size-digital k MinCurrent m u x t = refl
-size-digital k MaxCurrent m u x t = refl
-size-digital k UserReals m u x t = x
-size-digital k Maintenance m u x t = t
-size-digital k ChError m u x t = refl
+unfolding bytesRead
+size-digital k r m u x t = digital-size r (Tick.levels m) (channelAt m k) u x t
 
 size-common : (r : CommonRegister) (m : Module) → length (bytesRead (common r) m) ≡ size (common r)
 unfolding bytesRead Reads.commonBytes Bytes.bytesOf

@@ -1,5 +1,5 @@
 -- What a caller of the copies needs: the bytes that a register's record holds, and that no register is wider than it. Assumes nothing.
-use mathlib.Core.Path.{_≡_, refl}
+use mathlib.Core.Path.{_≡_, refl, ap, _∙_}
 use mathlib.Core.List.{List}
 use Prim.Native.Nat.{ℕ, _-_, _≤_}
 use native.Mathlib.Omega.{arith}
@@ -12,6 +12,7 @@ use Rattle.model.specs.declared.ServiceRegister.the-variants.{Highest, Reset, F
 use Rattle.model.specs.declared.DigitalRegister.the-variants.{FlagReg, OutTimer, Counter, OutCurrent, OperatingTime, UserBytes, FBTimer, FBPreset, OutPreset, ChConfig, MinCurrent, MaxCurrent, UserReals, Maintenance, ChError}
 use Rattle.model.specs.declared.CommonRegister.the-variants.{OutFlags, InFlags, IOChError, ChError as CommonChError}
 use Rattle.model.specs.Registers.{Place, service, digital, common, unlisted, beyond, serviceRow, digitalRow, commonRow, size}
+use Rattle.reads.specs.declared.buffer.RegisterBytes.{RegisterBytes}
 use Rattle.reads.specs.Held.{width, held}
 
 -- the register's own bytes are found again
@@ -63,3 +64,7 @@ fits (digital k r) = digital-fits r
 fits (common r) = common-fits r
 fits unlisted = omega arith
 fits beyond = omega arith
+
+-- bytes that are held have their length
+pub held-size : (b : RegisterBytes) (bs : List ℕ) (n : ℕ) → b ≡ held bs → length bs ≡ n → b .len ≡ n
+held-size b bs n e l = ap (λ (h : RegisterBytes). h .len) e ∙ held-length bs ∙ l

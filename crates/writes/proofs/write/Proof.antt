@@ -5,7 +5,8 @@ use Rattle.model.specs.declared.Reply.{Reply}
 use Rattle.registers.specs.Places.{placed, Within}
 use Rattle.registers.proofs.Laws.{within}
 use Rattle.writes.specs.Accepted.{effect}
-use Rattle.writes.proofs.Laws.Accepted.{accepted, answered}
+use Rattle.questions.proofs.Laws.Answers.{accepted}
+use Rattle.writes.proofs.Laws.Accepted.{answered}
 use Rattle.writes.proofs.write.Statement.{statement}
 use Rattle.writes.proofs.write.Tie as tie
 

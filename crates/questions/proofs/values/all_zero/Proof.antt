@@ -9,7 +9,7 @@ use lib.Seq.{drop-length}
 use borrow.Author.Needs.{needs}
 use borrow.Author.Tests.{eq-eqb, ne-eqb}
 use Rattle.model.specs.Writes.{allZero}
-use Rattle.questions.proofs.Laws.{zero-more}
+use Rattle.questions.proofs.Laws.Zeros.{zero-more}
 use Rattle.questions.proofs.values.all_zero.Statement.{statement}
 use Rattle.questions.proofs.values.all_zero.Tie as tie
 
