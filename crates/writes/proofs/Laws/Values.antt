@@ -1,7 +1,7 @@
 -- What a written Real that is allowed becomes, and the bits of a number one after another. Assumes nothing.
 use mathlib.Core.Path.{_≡_, sym, ap, _∙_}
 use mathlib.Core.Bool.{Bool, true, cond}
-use Prim.Native.Nat.{ℕ, suc, _*_, _/_, _^_}
+use Prim.Native.Nat.{ℕ, suc, _/_, _^_}
 use native.Mathlib.Nat.{div-div-eq-div-mul, pow-suc}
 use native.Mathlib.Omega.{arith}
 use Rattle.counts.specs.declared.TimerCount.{TimerCount}

@@ -1,0 +1,4 @@
+pub mod Lists
+pub mod Paste
+pub mod Rows
+pub mod Tests

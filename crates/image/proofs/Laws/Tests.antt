@@ -1,0 +1,38 @@
+-- Questions and their answers. Assumes nothing.
+use mathlib.Core.Path.{_≡_, refl, sym}
+use mathlib.Core.Bool.{Bool, true, false, cond, false≢true}
+use mathlib.Core.List.{List}
+use Prim.Native.Nat.{ℕ}
+use lib.ListN.{length}
+use borrow.Author.Tests.{eqb-true}
+use Rattle.model.specs.declared.Refusal.{Refusal}
+use Rattle.model.specs.declared.Reply.{Reply}
+use Rattle.model.specs.declared.Reply.the-variants.{Done, Refused}
+use Rattle.model.specs.Image.{imageSize, sizeRight, decode, started, zeroSetup}
+use Rattle.model.specs.Questions.{powerUpReply}
+use Rattle.model.specs.Calls.{startedAs}
+use Rattle.image.specs.Answers.{isDone}
+
+-- an image of the right size has 717 bytes
+pub size-long : (img : List ℕ) → sizeRight img ≡ true → length img ≡ imageSize
+unfolding sizeRight
+size-long img e = eqb-true (length img) imageSize e
+
+-- what is done passed its first question
+passed : (b : Bool) (x : Reply) (r : Refusal) → isDone (cond b x (Refused r)) ≡ true → b ≡ true
+passed true x r e = refl
+passed false x r e = e
+
+-- so an accepted image has them too
+pub done-long : (img : List ℕ) → isDone (powerUpReply img) ≡ true → length img ≡ imageSize
+unfolding powerUpReply
+done-long img e = size-long img (passed (sizeRight img) _ _ e)
+
+-- the box by whether power-up is done
+pub started-done : (r : Reply) (img : List ℕ) → isDone r ≡ true → started (decode img) ≡ startedAs r img
+started-done (Done n) img e = refl
+started-done (Refused r) img e = absurd (false≢true e)
+
+pub started-refused : (r : Reply) (img : List ℕ) → isDone r ≡ false → started zeroSetup ≡ startedAs r img
+started-refused (Done n) img e = absurd (false≢true (sym e))
+started-refused (Refused r) img e = refl

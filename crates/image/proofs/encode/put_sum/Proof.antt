@@ -1,0 +1,53 @@
+-- `encode::put_sum` meets its contract. Assumes nothing.
+use borrow.Author.Needs.{needs}
+use Rattle.image.specs.Parts.{pasted}
+use Rattle.integers.specs.Bytes.{bytesOf}
+use mathlib.Core.Path.{sym, ap, _∙_}
+use Prim.Native.Nat.{ℕ, _%_}
+use native.Mathlib.Omega.{arith}
+use lib.Seq.{length-take-le}
+use Rattle.image.proofs.encode.put_sum.Statement.{statement}
+use Rattle.image.proofs.encode.put_sum.Tie as tie
+
+slice-reshare-prefix-sum : tie.Need-slice-reshare-prefix-sum
+slice-reshare-prefix-sum c = search needs
+
+slice-aggregate-sum : tie.Need-slice-aggregate-sum
+slice-aggregate-sum c = sym (length-take-le 715 (c .before .before .args .buf .now) (omega (arith, c .before .before .pre)))
+
+sum-requires : tie.Need-sum-requires
+sum-requires c κs = omega (arith, length-take-le 715 (c .before .before .args .buf .now) (omega (arith, c .before .before .pre)))
+
+cast-bytes-of-u16 : tie.Need-cast-bytes-of-u16
+cast-bytes-of-u16 c = search needs
+
+bytes-of-u16-requires : tie.Need-bytes-of-u16-requires
+bytes-of-u16-requires c κs = search needs
+
+slice-aggregate-put : tie.Need-slice-aggregate-put
+slice-aggregate-put c = search needs
+
+put-requires : tie.Need-put-requires
+put-requires c κs = search needs
+
+same-length : tie.Need-same-length
+same-length c = search needs
+
+returns : tie.Need-returns
+returns c =
+    let buf = c .before .before .before .before .before .before .before .before .before .args .buf .now in
+    c .before .before .put .ensures ∙ ap (pasted buf 715) (c .before .before .before .before .before .bytes-of-u16 .ensures ∙ ap (λ (n : ℕ). bytesOf 2 (n % 65536)) (c .before .before .before .before .before .before .sum .ensures))
+
+pub put-sum-spec : {M : Type 1} → statement M
+put-sum-spec =
+    tie.close
+    (tie.spec
+    slice-reshare-prefix-sum
+    slice-aggregate-sum
+    sum-requires
+    cast-bytes-of-u16
+    bytes-of-u16-requires
+    slice-aggregate-put
+    put-requires
+    same-length
+    returns)

@@ -1,0 +1,113 @@
+// The questions of power-up, 10 to 13.
+ghost use mathlib.Core.Path.{_≡_};
+ghost use Prim.Native.Nat.{_*_, _≤_};
+ghost use lib.ListN.{length};
+ghost use Rattle.numbers.specs.Reals.{realFrom};
+ghost use Rattle.numbers.specs.Written.{limitAllowed};
+ghost use Rattle.model.specs.Image.{imageSize, entrySize, total, sizeRight, countsRight, sumRight, presetCountAllowed, entryAllowed, entriesAllowed, valuesAllowed};
+ghost use Rattle.image.specs.Answers.{isWithin};
+use crate::sizes;
+use integers::bytes;
+use numbers::written;
+use numbers::written::CurrentValue;
+
+pub fn size_right(img: &[u8]) -> bool
+    ensures { λ r. ⌜ r ≡ sizeRight (now (img .entry)) ⌝ }
+{
+    img.len() == sizes::IMAGE
+}
+
+// The other questions are put to an image that has its 717 bytes.
+pub fn counts_right(img: &[u8]) -> bool
+    requires { ⌜ length (now img) ≡ imageSize ⌝ }
+    ensures { λ r. ⌜ r ≡ countsRight (now (img .entry)) ⌝ }
+{
+    let first = img[0] == sizes::ONE_MODULE;
+    let second = img[sizes::SECOND_COUNT] == sizes::ALL_CHANNELS;
+    let third = img[sizes::THIRD_COUNT] == sizes::ONE_SUM;
+    first & (second & third)
+}
+
+// The sum of the bytes.
+pub fn sum(s: &[u8]) -> u32
+    requires { ⌜ length (now s) ≤ imageSize ⌝ }
+    ensures { λ r. ⌜ r ≡ total (now (s .entry)) ⌝ }
+{
+    let mut n: u32 = 0;
+    let mut i = 0;
+    while i < s.len() {
+        n += s[i] as u32;
+        i += 1;
+    }
+    n
+}
+
+pub fn sum_right(img: &[u8]) -> bool
+    requires { ⌜ length (now img) ≡ imageSize ⌝ }
+    ensures { λ r. ⌜ r ≡ sumRight (now (img .entry)) ⌝ }
+{
+    let told = bytes::u16_of_bytes(img[sizes::SUM], img[sizes::SUM + 1]);
+    let n = sum(&img[..sizes::SUM]);
+    (told as u32) == n % 65536
+}
+
+// A preset's count has no sign.
+fn preset_allowed(s: &[u8]) -> bool
+    requires { ⌜ length (now s) ≡ 4 ⌝ }
+    ensures { λ r. ⌜ r ≡ presetCountAllowed (now (s .entry)) ⌝ }
+{
+    fields::number_from(s) < 2147483648
+}
+
+fn is_within(v: CurrentValue) -> bool
+    ensures { λ r. ⌜ r ≡ isWithin v ⌝ }
+{
+    match v {
+        CurrentValue::Amperes(x) => true,
+        CurrentValue::Outside => false,
+    }
+}
+
+// MinCurrent or MaxCurrent.
+fn limit_allowed(s: &[u8]) -> bool
+    requires { ⌜ length (now s) ≡ 4 ⌝ }
+    ensures { λ r. ⌜ r ≡ limitAllowed (realFrom (now (s .entry))) ⌝ }
+{
+    is_within(written::written_limit(fields::real_from(s)))
+}
+
+fn entry_allowed(s: &[u8]) -> bool
+    requires { ⌜ length (now s) ≡ entrySize ⌝ }
+    ensures { λ r. ⌜ r ≡ entryAllowed (now (s .entry)) ⌝ }
+{
+    let config = fields::config_allowed(&s[0..sizes::FEEDBACK]);
+    let feedback = preset_allowed(&s[sizes::FEEDBACK..sizes::OUT]);
+    let out = preset_allowed(&s[sizes::OUT..sizes::MIN]);
+    let min = limit_allowed(&s[sizes::MIN..sizes::MAX]);
+    let max = limit_allowed(&s[sizes::MAX..sizes::REALS]);
+    config & (feedback & (out & (min & max)))
+}
+
+fn entries_allowed(s: &[u8]) -> bool
+    requires { ⌜ 16 * entrySize ≤ length (now s) ⌝ }
+    ensures { λ r. ⌜ r ≡ entriesAllowed 16 (now (s .entry)) ⌝ }
+{
+    let mut all = true;
+    for k in 0..sizes::CHANNELS {
+        let at = sizes::ENTRY * k;
+        let end = at + sizes::ENTRY;
+        let next = entry_allowed(&s[at..end]);
+        all = all & next;
+    }
+    all
+}
+
+pub fn values_allowed(img: &[u8]) -> bool
+    requires { ⌜ length (now img) ≡ imageSize ⌝ }
+    ensures { λ r. ⌜ r ≡ valuesAllowed (now (img .entry)) ⌝ }
+{
+    let config = fields::module_config_allowed(&img[sizes::CONFIG..sizes::PRESET]);
+    let preset = preset_allowed(&img[sizes::PRESET..sizes::SECOND_COUNT]);
+    let entries = entries_allowed(&img[sizes::ENTRIES..]);
+    config & (preset & entries)
+}
