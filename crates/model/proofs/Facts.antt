@@ -187,7 +187,16 @@ unfolding step preset cleared place Questions.writeReply Writes.written Writes.s
 reset m = λ i. record { shared = restarted m .shared; service = restarted m .service; channels = restored-all (m .channels) i }
 
 pub wired : Wired
-wired = record { preset-by-read = preset-by-read; preset-by-write = preset-by-write; cleared-by-write = cleared-by-write; reset = reset }
+unfolding Reads.afterRead Writes.written Writes.everyWritten
+wired =
+    record {
+      preset-by-read = preset-by-read;
+      preset-by-write = preset-by-write;
+      cleared-by-write = cleared-by-write;
+      reset = reset;
+      common-error-read = λ m. refl;
+      common-error-written = λ m bs. refl;
+    }
 
 -- ---- worked values
 pub worked : Worked

@@ -16,13 +16,15 @@ use Rattle.model.specs.declared.Module.{Module}
 use Rattle.model.specs.declared.ServiceRegister.{ServiceRegister}
 use Rattle.model.specs.declared.DigitalRegister.{DigitalRegister}
 use Rattle.model.specs.declared.CommonRegister.{CommonRegister}
+use Rattle.model.specs.declared.ServiceRegister.the-variants.{CommonError}
 use Rattle.model.specs.State.{withConfig, withFlags, withTimers, withCurrents, withErrors, outFlag, control, fbStatus, internalState, fbTimer, fbPreset, channelAt, setOutFlag, setInFlag, setControl}
 use Rattle.model.specs.Settings.{functions, notInput, isSpecial, hasReference}
 use Rattle.model.specs.Channel as Rules
-use Rattle.model.specs.Channel.{aboveTrip, setOverload, outFlagsWritten}
+use Rattle.model.specs.Channel.{aboveTrip, setOverload, outFlagsWritten, acknowledged}
 use Rattle.model.specs.Errors.{hasHis, comBytes}
 use Rattle.model.specs.Registers.{service, digital, common, serviceRow, digitalRow, commonRow, place, size}
-use Rattle.model.specs.Reads.{bytesRead, flagReg, channelWord}
+use Rattle.model.specs.Reads.{bytesRead, afterRead, flagReg, channelWord}
+use Rattle.model.specs.Writes.{written}
 use Rattle.model.specs.Tick.{saveDue, leaks, driven, found, runsOut, ticked}
 use Rattle.model.specs.Image.{Entry, setupOf, entryFrom, entryBytes, restored, restoredShared, noServiceBits, externalReset, started, zeroSetup}
 use Rattle.model.specs.Calls.{read, write, step}
@@ -56,6 +58,9 @@ pub record Wired : Type 0 where
   pub preset-by-write : (m : Module) (n : ℕ) (bs : List ℕ) → step m (write n bs) .box .service .watchdog ≡ step m (write n bs) .box .shared .preset
   pub cleared-by-write : (m : Module) (n : ℕ) (bs : List ℕ) → step m (write n bs) .box .service .act .watchdog ≡ false
   pub reset : (m : Module) → step m (write 0x03 (0xFF ∷ [])) .box ≡ restarted m
+  -- reading CommonError acknowledges the service channel's own errors and no channel's; writing zeros acknowledges every channel's
+  pub common-error-read : (m : Module) → afterRead (service CommonError) m .channels ≡ m .channels
+  pub common-error-written : (m : Module) (bs : List ℕ) → written (service CommonError) bs m .channels ≡ map acknowledged (m .channels)
 
 -- a channel's rules
 pub record Ruled : Type 0 where
