@@ -15,7 +15,7 @@ use Rattle.model.specs.Questions.{question1, question2, question3, question4, q
 use Rattle.model.specs.Writes.{allowed}
 
 -- a question that is asked before what is done is answered yes
-yes : (b : Bool) (x : Reply) (r : Refusal) (n : ℕ) → cond b x (Refused r) ≡ Done n → (b ≡ true) × (x ≡ Done n)
+pub yes : (b : Bool) (x : Reply) (r : Refusal) (n : ℕ) → cond b x (Refused r) ≡ Done n → (b ≡ true) × (x ≡ Done n)
 yes true x r n e = (refl, e)
 yes false x r n e = let z : _≡_ {A = ℕ} 0 1 = cc in absurd (omega arith)
 

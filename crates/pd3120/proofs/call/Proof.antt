@@ -1,0 +1,104 @@
+-- `call` meets its contract. Assumes nothing.
+use borrow.Author.Needs.{needs}
+use mathlib.Core.Path.{refl}
+use Rattle.model.specs.State.{channelAt}
+use Rattle.model.specs.Channel.{takeLevel, takeCurrent}
+use Rattle.model.specs.Questions.{levelReply, currentReply}
+use Rattle.model.specs.Calls.{step}
+use Rattle.pd3120.proofs.Laws.Samples.{plain-answer}
+use Rattle.pd3120.proofs.call.Statement.{statement}
+use Rattle.pd3120.proofs.call.Tie as tie
+
+enum-known-c : tie.Need-enum-known-c
+enum-known-c c = search needs
+
+read-requires : tie.Need-read-requires
+read-requires c κs = search needs
+
+enum-known-c-2 : tie.Need-enum-known-c-2
+enum-known-c-2 c = search needs
+
+write-requires : tie.Need-write-requires
+write-requires c κs = search needs
+
+enum-known-c-3 : tie.Need-enum-known-c-3
+enum-known-c-3 c = search needs
+
+level-requires : tie.Need-level-requires
+level-requires c κs = search needs
+
+plain-requires : tie.Need-plain-requires
+plain-requires c κs = search needs
+
+enum-known-c-4 : tie.Need-enum-known-c-4
+enum-known-c-4 c = search needs
+
+current-requires : tie.Need-current-requires
+current-requires c κs = search needs
+
+plain-requires-2 : tie.Need-plain-requires-2
+plain-requires-2 c κs = search needs
+
+enum-told : tie.Need-enum-told
+enum-told c = search needs
+
+tick-requires : tie.Need-tick-requires
+tick-requires c κs = search needs
+
+plain-requires-3 : tie.Need-plain-requires-3
+plain-requires-3 c κs = search needs
+
+same-length : tie.Need-same-length
+same-length c = search needs
+
+returns : tie.Need-returns
+returns c = let e = c .before .before .read .ensures in rw (c .before .before .before .before .before .c .given .1) (e .0, e .1)
+
+returns-2 : tie.Need-returns-2
+returns-2 c = rw (c .before .before .c2 .given .1) (c .write .ensures, refl)
+
+returns-3 : tie.Need-returns-3
+unfolding step
+returns-3 c =
+    let m = c .before .before .before .before .before .before .before .args .m in
+    let k = c .before .before .before .c3 .given .0 .0 in
+    let on = c .before .before .before .c3 .given .0 .1 .0 in
+    rw (c .before .before .before .c3 .given .1)
+    (plain-answer (levelReply k) k (takeLevel on (channelAt m k)) m (c .before .level .result) (c .plain .result) (c .before .level .ensures) (c .plain .ensures), refl)
+
+returns-4 : tie.Need-returns-4
+unfolding step
+returns-4 c =
+    let m = c .before .before .before .before .before .before .before .args .m in
+    let k = c .before .before .before .c4 .given .0 .0 in
+    let x = c .before .before .before .c4 .given .0 .1 .0 in
+    rw (c .before .before .before .c4 .given .1)
+    (plain-answer (currentReply k x) k (takeCurrent (m .shared) x (channelAt m k)) m (c .before .current .result) (c .plain2 .result) (c .before .current .ensures) (c .plain2 .ensures), refl)
+
+returns-5 : tie.Need-returns-5
+unfolding step
+returns-5 c = rw (c .before .before .enum-told .given .1) (simp (c .plain3 .ensures, c .before .tick .ensures), refl)
+
+pub call-spec : {M : Type 1} → statement M
+call-spec =
+    tie.close
+    (tie.spec
+    enum-known-c
+    read-requires
+    enum-known-c-2
+    write-requires
+    enum-known-c-3
+    level-requires
+    plain-requires
+    enum-known-c-4
+    current-requires
+    plain-requires-2
+    enum-told
+    tick-requires
+    plain-requires-3
+    same-length
+    returns
+    returns-2
+    returns-3
+    returns-4
+    returns-5)

@@ -1,0 +1,12 @@
+-- `clear` meets its contract. Assumes nothing.
+use mathlib.Core.Path.{refl}
+use Rattle.model.specs.Calls.{cleared}
+use Rattle.pd3120.proofs.clear.Statement.{statement}
+use Rattle.pd3120.proofs.clear.Tie as tie
+
+returns : tie.Need-returns
+unfolding cleared
+returns c = refl
+
+pub clear-spec : {M : Type 1} → statement M
+clear-spec = tie.close (tie.spec returns)

@@ -1,0 +1,28 @@
+-- `power_up` meets its contract. Assumes nothing.
+use borrow.Author.Needs.{needs}
+use mathlib.Core.Path.{sym, ap, subst, _∙_}
+use Rattle.model.specs.declared.Module.{Module}
+use Rattle.model.specs.Image.{setupOf, encode}
+use Rattle.model.specs.TwoLists.{LearnsNothing}
+use Rattle.model.proofs.TwoLists.{two-lists}
+use Rattle.model.proofs.Images.{images}
+use Rattle.pd3120.proofs.Laws.Bytes.{are-bytes}
+use Rattle.pd3120.proofs.power_up.Statement.{statement}
+use Rattle.pd3120.proofs.power_up.Tie as tie
+
+power-up-requires : tie.Need-power-up-requires
+power-up-requires c κs = search needs
+
+returns : tie.Need-returns
+returns c =
+    let img = c .before .before .before .args .img .now in
+    let e = c .before .power-up .ensures in
+    record {
+      module-is = e .0;
+      reply-is = e .1;
+      learns-nothing = λ ok. subst LearnsNothing (sym (e .0)) (two-lists img (sym (e .1) ∙ ok));
+      stored-again = λ ok. ap (λ (m : Module). encode (setupOf m)) (e .0) ∙ images .again img (are-bytes img (λ i. c .before .before .shared-slice-known .given i .fits)) (sym (e .1) ∙ ok);
+    }
+
+pub power-up-spec : {M : Type 1} → statement M
+power-up-spec = tie.close (tie.spec power-up-requires returns)

@@ -1,0 +1,12 @@
+-- `preset_watchdog` meets its contract. Assumes nothing.
+use mathlib.Core.Path.{refl}
+use Rattle.model.specs.Calls.{preset}
+use Rattle.pd3120.proofs.preset_watchdog.Statement.{statement}
+use Rattle.pd3120.proofs.preset_watchdog.Tie as tie
+
+returns : tie.Need-returns
+unfolding preset
+returns c = refl
+
+pub preset-watchdog-spec : {M : Type 1} → statement M
+preset-watchdog-spec = tie.close (tie.spec returns)

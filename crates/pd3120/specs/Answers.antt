@@ -1,0 +1,53 @@
+-- The public answers beside the model's. The paper's number and length of a reply are `numberOf` and `lengthOf` of the model's Questions. Definitions only.
+use mathlib.Core.Path.{_≡_}
+use mathlib.Core.Bool.{Bool, _&&_}
+use mathlib.Core.List.{List}
+use Prim.Native.Nat.{ℕ}
+use Rattle.model.specs.declared.Call.{Call}
+use Rattle.model.specs.declared.Call.the-variants.{Read, Write, Level, Current, Tick}
+use Rattle.model.specs.declared.Module.{Module}
+use Rattle.model.specs.declared.Reply.the-variants.{Done}
+use Rattle.model.specs.State.{channelAt}
+use Rattle.model.specs.Settings.{digital, output}
+use Rattle.model.specs.Questions.{powerUpReply}
+use Rattle.model.specs.Calls.{Request, read, write, level, current, tick, Stepped, step, powerUp}
+use Rattle.model.specs.Image.{setupOf, encode}
+use Rattle.model.specs.TwoLists.{LearnsNothing}
+use Rattle.pd3120.specs.declared.Answered.{Answered}
+use Rattle.pd3120.specs.declared.Sampled.{Sampled}
+use Rattle.pd3120.specs.declared.Started.{Started}
+
+-- what a wire call answers: its reply, DataError and GeneralError; and the box that it leaves
+abbrev pub answeredBy : Stepped → Answered
+answeredBy s = record { after = s .box; reply = s .answer .reply; «data_error» = s .answer .data-error; «general_error» = s .answer .general-error }
+
+-- "A sample answers its number alone"
+abbrev pub sampledBy : Stepped → Sampled
+sampledBy s = record { after = s .box; reply = s .answer .reply }
+
+-- Output of channel k, off where there is none
+abbrev pub outputAt : Module → ℕ → Bool
+outputAt m k = digital k && output (channelAt m k)
+
+-- the entry of a list that a call and its own slice make
+abbrev pub requestOf : Call → List ℕ → List ℕ → Request
+requestOf (Read n) written lent = read n lent
+requestOf (Write n) written lent = write n written
+requestOf (Level k b) written lent = level k b
+requestOf (Current k x) written lent = current k x
+requestOf Tick written lent = tick
+
+-- the lent buffer after a call: a read's answer, and unchanged by every other call
+abbrev pub lentAfter : Call → Module → List ℕ → List ℕ
+lentAfter (Read n) m lent = step m (read n lent) .answer .buffer
+lentAfter (Write n) m lent = lent
+lentAfter (Level k b) m lent = lent
+lentAfter (Current k x) m lent = lent
+lentAfter Tick m lent = lent
+
+-- power-up: the box and the reply; and of an accepted image, demand 3 for that very box, and that it is stored again as the same bytes
+pub record PoweredUp (img : List ℕ) (r : Started) : Type 0 where
+  pub module-is : r .after ≡ powerUp img
+  pub reply-is : r .reply ≡ powerUpReply img
+  pub learns-nothing : r .reply ≡ Done 0 → LearnsNothing (r .after)
+  pub stored-again : r .reply ≡ Done 0 → encode (setupOf (r .after)) ≡ img

@@ -1,0 +1,2 @@
+-- What the public functions answer, in the words of the model's `step`, `powerUp` and `stored`.
+pub mod Answers
