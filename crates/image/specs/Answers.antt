@@ -1,17 +1,10 @@
 -- Answers: whether one is a yes, and the questions after an image's size. Definitions only.
 use mathlib.Core.Bool.{Bool, true, false}
 use mathlib.Core.List.{[], _∷_}
-use Rattle.numbers.specs.declared.written.CurrentValue.{CurrentValue}
-use Rattle.numbers.specs.declared.written.CurrentValue.the-variants.{Amperes, Outside}
 use Rattle.model.specs.declared.Reply.{Reply}
 use Rattle.model.specs.declared.Reply.the-variants.{Done, Refused}
 use Rattle.model.specs.declared.Refusal.the-variants.{ImageCounts, ImageSum, ImageValues}
 use Rattle.model.specs.Questions.{asked, _else_}
-
--- a Real within its register's range
-abbrev pub isWithin : CurrentValue → Bool
-isWithin (Amperes x) = true
-isWithin Outside = false
 
 -- a call that is done
 abbrev pub isDone : Reply → Bool

@@ -5,11 +5,9 @@ ghost use lib.ListN.{length};
 ghost use Rattle.numbers.specs.Reals.{realFrom};
 ghost use Rattle.numbers.specs.Written.{limitAllowed};
 ghost use Rattle.model.specs.Image.{imageSize, entrySize, total, sizeRight, countsRight, sumRight, presetCountAllowed, entryAllowed, entriesAllowed, valuesAllowed};
-ghost use Rattle.image.specs.Answers.{isWithin};
 use crate::sizes;
 use integers::bytes;
 use numbers::written;
-use numbers::written::CurrentValue;
 
 pub fn size_right(img: &[u8]) -> bool
     ensures { λ r. ⌜ r ≡ sizeRight (now (img .entry)) ⌝ }
@@ -59,21 +57,12 @@ fn preset_allowed(s: &[u8]) -> bool
     fields::number_from(s) < 2147483648
 }
 
-fn is_within(v: CurrentValue) -> bool
-    ensures { λ r. ⌜ r ≡ isWithin v ⌝ }
-{
-    match v {
-        CurrentValue::Amperes(x) => true,
-        CurrentValue::Outside => false,
-    }
-}
-
 // MinCurrent or MaxCurrent.
 fn limit_allowed(s: &[u8]) -> bool
     requires { ⌜ length (now s) ≡ 4 ⌝ }
     ensures { λ r. ⌜ r ≡ limitAllowed (realFrom (now (s .entry))) ⌝ }
 {
-    is_within(written::written_limit(fields::real_from(s)))
+    written::limit_allowed(fields::real_from(s))
 }
 
 fn entry_allowed(s: &[u8]) -> bool
