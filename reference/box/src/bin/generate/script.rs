@@ -1,0 +1,187 @@
+//! The script being written, and what its writer knows of the box.
+
+use crate::random::Random;
+use crate::values::{self, Flavour};
+use reference_box::registers::{Access, Digital, Register};
+use reference_box::CHANNELS;
+
+/// Ticks from one save to the next.
+const SAVE: u64 = 1_152_000;
+
+pub struct Script {
+    pub random: Random,
+    pub flavour: Flavour,
+    /// The channels that most calls are for.
+    pub focus: Vec<u8>,
+    /// The ChConfig last written to each channel.
+    configs: [Option<[u8; 4]>; CHANNELS],
+    /// How many long runs of ticks may still come.
+    pub long_runs: u32,
+    /// The channels called since power-up, channel k at bit k−1.
+    touched: u16,
+    write_enable: bool,
+    ticks: u64,
+    calls: usize,
+    text: String,
+}
+
+impl Script {
+    pub fn new(seed: u64) -> Script {
+        let mut script = Script {
+            random: Random::new(seed),
+            flavour: Flavour::Plain,
+            focus: Vec::new(),
+            configs: [None; CHANNELS],
+            long_runs: 0,
+            touched: 0,
+            write_enable: false,
+            ticks: 0,
+            calls: 0,
+            text: String::new(),
+        };
+        script.refocus();
+        script
+    }
+
+    pub fn calls(&self) -> usize {
+        self.calls
+    }
+
+    pub fn into_text(self) -> String {
+        self.text
+    }
+
+    /// Turns to other channels, two to four of them.
+    pub fn refocus(&mut self) {
+        let count = self.random.within(2, 4);
+        self.focus = (0..count)
+            .map(|_| self.random.within(1, 16) as u8)
+            .collect();
+    }
+
+    fn call(&mut self, line: String) {
+        self.text.push_str(&line);
+        self.text.push('\n');
+        self.calls += 1;
+    }
+
+    pub fn power(&mut self, image: &[u8]) {
+        self.call(format!("power {}", hexadecimal(image)));
+        self.touched = 0;
+        self.restart();
+    }
+
+    fn restart(&mut self) {
+        self.write_enable = false;
+        self.ticks = 0;
+    }
+
+    pub fn store(&mut self, length: usize) {
+        self.call(format!("store {length}"));
+    }
+
+    /// A read with a lent buffer of random bytes.
+    pub fn read(&mut self, swno: u16, length: usize) {
+        let lent = self.random.bytes(length);
+        self.call(format!("read {swno:x} {}", hexadecimal(&lent)));
+    }
+
+    /// A read with a buffer that is long enough, and now and then longer.
+    pub fn read_register(&mut self, swno: u16) {
+        let length = Register::find(swno).map_or(4, Register::length);
+        let longer = match self.random.below(4) {
+            0 => self.random.below(5) as usize,
+            _ => 0,
+        };
+        self.read(swno, length + longer);
+    }
+
+    pub fn write(&mut self, swno: u16, bytes: &[u8]) {
+        self.call(format!("write {swno:x} {}", hexadecimal(bytes)));
+        match (swno, bytes) {
+            (0x0D, [on @ 0..=1]) => self.write_enable = *on == 1,
+            (0x03, [0xFF]) => self.restart(),
+            _ => self.remember_config(swno, bytes),
+        }
+    }
+
+    fn remember_config(&mut self, swno: u16, bytes: &[u8]) {
+        if let Ok(Register::Digital(index, Digital::ChConfig)) = Register::find(swno) {
+            self.configs[index] = bytes.try_into().ok();
+        }
+    }
+
+    /// The ChConfig last written to a channel.
+    pub fn last_config(&self, channel: u8) -> Option<[u8; 4]> {
+        self.configs[usize::from(channel) - 1]
+    }
+
+    /// A write that suits the register; before a protected one WriteEnable is
+    /// mostly made TRUE.
+    pub fn write_suiting(&mut self, swno: u16) {
+        let bytes = values::suiting(&mut self.random, swno, &self.focus, self.flavour);
+        self.write_with_enable(swno, &bytes);
+    }
+
+    pub fn write_with_enable(&mut self, swno: u16, bytes: &[u8]) {
+        let protected = Register::find(swno).map(Register::access) == Ok(Access::Protected);
+        if protected && !self.write_enable && self.random.chance(15, 16) {
+            self.write(0x0D, &[1]);
+        }
+        self.write(swno, bytes);
+    }
+
+    pub fn write_word(&mut self, swno: u16, word: u32) {
+        self.write_with_enable(swno, &word.to_be_bytes());
+    }
+
+    pub fn level(&mut self, channel: u8, on: bool) {
+        self.call(format!("level {channel} {}", u8::from(on)));
+    }
+
+    pub fn current(&mut self, channel: u8, amperes: u32) {
+        self.call(format!("current {channel} {amperes:08x}"));
+    }
+
+    pub fn tick(&mut self, count: u64) {
+        self.call(match count {
+            1 => "tick".to_string(),
+            _ => format!("tick {count}"),
+        });
+        self.ticks += count;
+    }
+
+    /// How many ticks there are up to and with the next save.
+    pub fn ticks_to_save(&self) -> u64 {
+        SAVE - self.ticks % SAVE
+    }
+
+    /// Mostly a channel of the focus, now and then any other.
+    pub fn channel(&mut self) -> u8 {
+        let channel = if self.random.chance(1, 12) {
+            self.random.within(1, 16) as u8
+        } else {
+            self.random.pick(&self.focus)
+        };
+        self.touched |= 1 << (channel - 1);
+        channel
+    }
+
+    /// The channels called since power-up.
+    pub fn touched(&self) -> Vec<u8> {
+        let touched = |channel: &u8| self.touched >> (channel - 1) & 1 == 1;
+        (1..=CHANNELS as u8).filter(touched).collect()
+    }
+
+    /// A register of some channel.
+    pub fn digital(&mut self, register: u16) -> u16 {
+        u16::from(self.channel()) * 0x10 + register
+    }
+}
+
+fn hexadecimal(bytes: &[u8]) -> String {
+    if bytes.is_empty() {
+        return "-".to_string();
+    }
+    bytes.iter().map(|byte| format!("{byte:02x}")).collect()
+}

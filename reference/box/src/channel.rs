@@ -1,0 +1,597 @@
+//! A channel: its settings, its flags and what calls do to them.
+
+use crate::reals::{self, Real};
+use crate::CHANNELS;
+
+/// "FlagReg bits: 7 OutFlag, 6 InFlag, 5 InA, 4 InB, 3 Control, 2 FBStatus,
+/// 1 Act not 0, 0 zero."
+pub mod flag {
+    pub const OUT: u8 = 1 << 7;
+    pub const IN: u8 = 1 << 6;
+    pub const IN_A: u8 = 1 << 5;
+    pub const IN_B: u8 = 1 << 4;
+    pub const CONTROL: u8 = 1 << 3;
+    pub const FB_STATUS: u8 = 1 << 2;
+    pub const ERROR: u8 = 1 << 1;
+}
+
+/// The bits of a digital channel's ChError.
+pub mod error {
+    pub const OVERLOAD: u8 = 1 << 6;
+    pub const UNDERLOAD: u8 = 1 << 5;
+    pub const EXTERNAL_SHORT_CIRCUIT: u8 = 1 << 4;
+    pub const INTERNAL_SHORT_CIRCUIT: u8 = 1 << 3;
+    pub const DISCONNECTION: u8 = 1 << 2;
+    pub const FEEDBACK: u8 = 1 << 1;
+    pub const PRG_ERROR: u8 = 1 << 0;
+}
+
+/// "Functions: 0 input, $10 output, $20 one-shot, $30 duty cycle, $50 timer."
+#[derive(Clone, Copy, Debug, PartialEq, Eq)]
+pub enum Function {
+    Input,
+    Output,
+    OneShot,
+    DutyCycle,
+    Timer,
+}
+
+/// ChConfig and ModuleConfig, as the four bytes stand.
+#[derive(Clone, Copy, Debug, Default, PartialEq, Eq)]
+pub struct Config {
+    pub enable: u8,
+    pub functions: u8,
+    pub ref_a: u8,
+    pub ref_b: u8,
+}
+
+impl Config {
+    /// From four bytes in the order of the record.
+    pub fn from_bytes(bytes: [u8; 4]) -> Config {
+        let [enable, functions, ref_a, ref_b] = bytes;
+        Config {
+            enable,
+            functions,
+            ref_a,
+            ref_b,
+        }
+    }
+
+    pub fn to_bytes(self) -> [u8; 4] {
+        [self.enable, self.functions, self.ref_a, self.ref_b]
+    }
+
+    /// The fields a ChConfig may be written with; any Enablebit is allowed.
+    pub fn is_allowed_for_channel(self) -> bool {
+        let listed = matches!(self.functions, 0 | 0x10 | 0x20 | 0x30 | 0x50);
+        let highest = CHANNELS as u8;
+        listed && self.ref_a <= highest && self.ref_b <= highest
+    }
+
+    /// "Functions (0 watchdog on, $10 off), Ref_A, Ref_B; unused bytes kept."
+    pub fn is_allowed_for_module(self) -> bool {
+        matches!(self.functions, 0 | 0x10)
+    }
+
+    pub fn watchdog_is_on(self) -> bool {
+        self.functions != 0x10
+    }
+
+    /// "A box value with other settings acts as Functions 0".
+    pub fn function(self) -> Function {
+        match self.functions {
+            0x10 => Function::Output,
+            0x20 => Function::OneShot,
+            0x30 => Function::DutyCycle,
+            0x50 => Function::Timer,
+            _ => Function::Input,
+        }
+    }
+
+    /// "Enablebit 0 simulates input".
+    pub fn simulates_input(self) -> bool {
+        self.enable & 1 << 0 != 0
+    }
+
+    /// "2 feedback".
+    pub fn simulates_feedback(self) -> bool {
+        self.enable & 1 << 2 != 0
+    }
+
+    /// "5 enables underload".
+    pub fn enables_underload(self) -> bool {
+        self.enable & 1 << 5 != 0
+    }
+
+    /// "6 silences overload".
+    pub fn silences_overload(self) -> bool {
+        self.enable & 1 << 6 != 0
+    }
+
+    /// The index of the channel that Ref_A names.
+    pub fn index_a(self) -> Option<usize> {
+        index_of(self.ref_a)
+    }
+
+    /// The index of the channel that Ref_B names.
+    pub fn index_b(self) -> Option<usize> {
+        index_of(self.ref_b)
+    }
+
+    pub fn names_a_reference(self) -> bool {
+        self.index_a().is_some() || self.index_b().is_some()
+    }
+}
+
+/// "A reference is no channel, or a channel from 1 to 16." Any other acts as
+/// "reference 0".
+fn index_of(reference: u8) -> Option<usize> {
+    let channel = usize::from(reference);
+    (1..=CHANNELS).contains(&channel).then(|| channel - 1)
+}
+
+/// The kept values of a channel: its image entry. Of the protected registers
+/// there is no other copy, since "a protected write is kept at once".
+#[derive(Clone, Copy, Debug, Default, PartialEq, Eq)]
+pub struct Kept {
+    pub config: Config,
+    pub fb_preset: i32,
+    pub out_preset: i32,
+    pub min_current: Real,
+    pub max_current: Real,
+    pub user_reals: [u8; 8],
+    pub maintenance: [u8; 4],
+    pub user_bytes: [u8; 4],
+    pub counter: i32,
+    pub operating: u32,
+}
+
+/// A digital channel.
+#[derive(Clone, Copy, Debug, Default, PartialEq, Eq)]
+pub struct Channel {
+    pub kept: Kept,
+    pub counter: i32,
+    pub operating: u32,
+    pub user_bytes: [u8; 4],
+    pub out_flag: bool,
+    pub in_flag: bool,
+    pub control: bool,
+    pub fb_status: bool,
+    /// "InternalState (Control as last seen by the special function)".
+    pub internal_state: bool,
+    pub out_timer: i32,
+    pub fb_timer: i32,
+    pub out_current: Real,
+    pub his: u8,
+    pub act: u8,
+}
+
+impl Channel {
+    /// A channel restored from its kept values, "all else 0".
+    pub fn restored(kept: Kept) -> Channel {
+        Channel {
+            kept,
+            counter: kept.counter,
+            operating: kept.operating,
+            user_bytes: kept.user_bytes,
+            ..Channel::default()
+        }
+    }
+
+    /// "Output = OutFlag and Functions not 0."
+    pub fn output(&self) -> bool {
+        self.out_flag && !self.is_input()
+    }
+
+    pub fn is_input(&self) -> bool {
+        self.kept.config.function() == Function::Input
+    }
+
+    /// "InA is InFlag of Ref_A [...], 0 without a reference; simulated
+    /// feedback gives OutFlag and its opposite, reference or not." The word
+    /// holds InFlag of channel k at bit k−1.
+    pub fn in_a(&self, in_flags: u16) -> bool {
+        if self.kept.config.simulates_feedback() {
+            return self.out_flag;
+        }
+        is_set(in_flags, self.kept.config.index_a())
+    }
+
+    /// "InB of Ref_B".
+    pub fn in_b(&self, in_flags: u16) -> bool {
+        if self.kept.config.simulates_feedback() {
+            return !self.out_flag;
+        }
+        is_set(in_flags, self.kept.config.index_b())
+    }
+
+    /// FlagReg as it reads.
+    pub fn flag_reg(&self, in_flags: u16) -> u8 {
+        let bits = [
+            (flag::OUT, self.out_flag),
+            (flag::IN, self.in_flag),
+            (flag::IN_A, self.in_a(in_flags)),
+            (flag::IN_B, self.in_b(in_flags)),
+            (flag::CONTROL, self.control),
+            (flag::FB_STATUS, self.fb_status),
+            (flag::ERROR, self.act != 0),
+        ];
+        bits.iter()
+            .filter(|(_, on)| *on)
+            .fold(0, |byte, (bit, _)| byte | bit)
+    }
+
+    /// "*Change rule*: when OutFlag changes, FBTimer := FBPreset, and
+    /// FBStatus := TRUE if a reference is set."
+    pub fn change_rule(&mut self, before: bool) {
+        if self.out_flag == before {
+            return;
+        }
+        self.fb_timer = self.kept.fb_preset;
+        if self.kept.config.names_a_reference() {
+            self.fb_status = true;
+        }
+    }
+
+    /// "Setting any Act bit, here or elsewhere, sets its His bit."
+    pub fn set_error(&mut self, bits: u8) {
+        self.act |= bits;
+        self.his |= bits;
+    }
+
+    /// "then that His := its Act".
+    pub fn acknowledge(&mut self) {
+        self.his = self.act;
+    }
+
+    /// "Each InFlag 0 to 1 adds 1 to Counter, 2147483647 going to
+    /// −2147483648."
+    fn set_in_flag(&mut self, on: bool) {
+        if on && !self.in_flag {
+            self.counter = self.counter.wrapping_add(1);
+        }
+        self.in_flag = on;
+    }
+
+    /// "A level sets InFlag unless simulated."
+    pub fn level(&mut self, on: bool) {
+        if !self.kept.config.simulates_input() {
+            self.set_in_flag(on);
+        }
+    }
+
+    /// "InFlags sets simulated channels only."
+    pub fn simulate_in_flag(&mut self, on: bool) {
+        if self.kept.config.simulates_input() {
+            self.set_in_flag(on);
+        }
+    }
+
+    /// "A current is stored; above 2 it trips".
+    pub fn current(&mut self, amperes: Real) {
+        self.out_current = amperes;
+        if self.is_above_two() {
+            self.trip();
+        }
+    }
+
+    pub fn is_above_two(&self) -> bool {
+        reals::greater(self.out_current, reals::TWO)
+    }
+
+    /// "it trips: OutFlag and Control FALSE, and unless Enablebit 6, overload
+    /// (bit 6 of ChError) is set"; then the change rule.
+    pub fn trip(&mut self) {
+        let before = self.out_flag;
+        self.out_flag = false;
+        self.control = false;
+        if !self.kept.config.silences_overload() {
+            self.set_error(error::OVERLOAD);
+        }
+        self.change_rule(before);
+    }
+
+    /// "Writing FlagReg clears Act bits 6 and 0, then takes bits 7 and 3, and
+    /// bit 6 if simulated."
+    pub fn write_flag_reg(&mut self, byte: u8) {
+        self.act &= !(error::OVERLOAD | error::PRG_ERROR);
+        let before = self.out_flag;
+        self.take_out_flag(byte & flag::OUT != 0);
+        self.change_rule(before);
+        self.take_control(byte & flag::CONTROL != 0);
+        self.simulate_in_flag(byte & flag::IN != 0);
+    }
+
+    /// "OutFlags takes bit 7 alike, clears no Act bit, and skips the change
+    /// rule for FALSE to TRUE."
+    pub fn write_out_flags_bit(&mut self, on: bool) {
+        let before = self.out_flag;
+        self.take_out_flag(on);
+        if before {
+            self.change_rule(before);
+        }
+    }
+
+    /// "A set bit 7 on Functions 0 [...] isn't taken (the flag stays) and
+    /// sets PrgError."
+    fn take_out_flag(&mut self, on: bool) {
+        if on && self.is_input() {
+            self.set_error(error::PRG_ERROR);
+        } else {
+            self.out_flag = on;
+        }
+    }
+
+    /// "or a set bit 3 on 0 or $10, isn't taken (the flag stays) and sets
+    /// PrgError."
+    fn take_control(&mut self, on: bool) {
+        let function = self.kept.config.function();
+        if on && matches!(function, Function::Input | Function::Output) {
+            self.set_error(error::PRG_ERROR);
+        } else {
+            self.control = on;
+        }
+    }
+
+    /// "Writing ChConfig clears FBStatus, Control, InternalState [...], then
+    /// OutFlag under the new settings by the change rule."
+    pub fn write_config(&mut self, config: Config) {
+        self.kept.config = config;
+        self.fb_status = false;
+        self.control = false;
+        self.internal_state = false;
+        let before = self.out_flag;
+        self.out_flag = false;
+        self.change_rule(before);
+    }
+
+    /// Step 7 of a tick: "Counter and the operating count are kept."
+    pub fn keep_counts(&mut self) {
+        self.kept.counter = self.counter;
+        self.kept.operating = self.operating;
+    }
+}
+
+fn is_set(word: u16, index: Option<usize>) -> bool {
+    index.is_some_and(|index| word >> index & 1 == 1)
+}
+
+#[cfg(test)]
+mod tests {
+    use super::*;
+
+    fn channel(enable: u8, functions: u8, ref_a: u8, ref_b: u8) -> Channel {
+        let config = Config::from_bytes([enable, functions, ref_a, ref_b]);
+        Channel::restored(Kept {
+            config,
+            fb_preset: 512,
+            ..Kept::default()
+        })
+    }
+
+    #[test]
+    fn output_needs_a_function() {
+        let mut output = channel(0, 0x10, 0, 0);
+        assert!(!output.output());
+        output.out_flag = true;
+        assert!(output.output());
+        output.kept.config.functions = 0;
+        assert!(!output.output());
+    }
+
+    #[test]
+    fn other_settings_act_as_zero() {
+        for functions in [0x40, 0x11, 0x60, 0xFF, 1] {
+            assert!(channel(0, functions, 0, 0).is_input());
+        }
+        let strange = channel(0, 0x10, 17, 255).kept.config;
+        assert_eq!((strange.index_a(), strange.index_b()), (None, None));
+        assert!(!strange.names_a_reference());
+    }
+
+    #[test]
+    fn in_a_and_in_b_follow_the_references() {
+        let named = channel(0, 0x10, 1, 16);
+        assert!(named.in_a(0x0001) && !named.in_b(0x0001));
+        assert!(!named.in_a(0x8000) && named.in_b(0x8000));
+        let alone = channel(0, 0x10, 0, 0);
+        assert!(!alone.in_a(0xFFFF) && !alone.in_b(0xFFFF));
+    }
+
+    #[test]
+    fn simulated_feedback_comes_before_references() {
+        for references in [0, 5] {
+            let mut simulated = channel(0b100, 0x10, references, references);
+            assert!(!simulated.in_a(0xFFFF) && simulated.in_b(0));
+            simulated.out_flag = true;
+            assert!(simulated.in_a(0) && !simulated.in_b(0xFFFF));
+        }
+    }
+
+    #[test]
+    fn the_other_enablebits_have_no_effect() {
+        let config = channel(0b1001_1010, 0x10, 0, 0).kept.config;
+        assert!(!config.simulates_input() && !config.simulates_feedback());
+        assert!(!config.enables_underload() && !config.silences_overload());
+    }
+
+    #[test]
+    fn the_change_rule_marks_under_simulated_feedback_too() {
+        let mut simulated = channel(0b100, 0x10, 0, 2);
+        simulated.write_flag_reg(flag::OUT);
+        assert!(simulated.fb_status);
+    }
+
+    #[test]
+    fn without_a_reference_the_change_rule_leaves_fb_status() {
+        let mut alone = channel(0, 0x10, 0, 0);
+        alone.fb_status = true;
+        alone.write_flag_reg(flag::OUT);
+        assert!(alone.fb_status);
+    }
+
+    #[test]
+    fn a_bit_that_is_not_taken_leaves_the_flag() {
+        let mut input = channel(0, 0, 0, 0);
+        input.out_flag = true;
+        input.control = true;
+        input.write_flag_reg(flag::OUT | flag::CONTROL);
+        assert!(input.out_flag && input.control);
+        input.write_out_flags_bit(true);
+        assert!(input.out_flag);
+        input.write_flag_reg(0);
+        assert!(!input.out_flag && !input.control);
+    }
+
+    #[test]
+    fn a_current_above_two_trips_an_input_too() {
+        let mut input = channel(0, 0, 0, 0);
+        input.current(reals::TWO + 1);
+        assert_eq!((input.act, input.fb_timer), (error::OVERLOAD, 0));
+    }
+
+    #[test]
+    fn the_change_rule_presets_and_marks() {
+        let mut named = channel(0, 0x10, 2, 0);
+        named.write_flag_reg(flag::OUT);
+        assert_eq!((named.fb_timer, named.fb_status), (512, true));
+        let mut alone = channel(0, 0x10, 0, 0);
+        alone.write_flag_reg(flag::OUT);
+        assert_eq!((alone.fb_timer, alone.fb_status), (512, false));
+        alone.fb_timer = 1;
+        alone.write_flag_reg(flag::OUT);
+        assert_eq!(alone.fb_timer, 1);
+    }
+
+    #[test]
+    fn levels_count_rises_and_wrap() {
+        let mut input = channel(0, 0, 0, 0);
+        input.counter = i32::MAX;
+        for on in [true, true, false, false, true] {
+            input.level(on);
+        }
+        assert_eq!(input.counter, i32::MIN + 1);
+    }
+
+    #[test]
+    fn a_level_passes_a_simulated_channel_by() {
+        let mut simulated = channel(1, 0, 0, 0);
+        simulated.level(true);
+        assert_eq!((simulated.in_flag, simulated.counter), (false, 0));
+        simulated.write_flag_reg(flag::IN);
+        assert_eq!((simulated.in_flag, simulated.counter), (true, 1));
+        simulated.simulate_in_flag(false);
+        assert!(!simulated.in_flag);
+        let mut wired = channel(0, 0, 0, 0);
+        wired.write_flag_reg(flag::IN);
+        wired.simulate_in_flag(true);
+        assert!(!wired.in_flag);
+    }
+
+    #[test]
+    fn a_current_above_two_trips() {
+        let mut shot = channel(0, 0x20, 3, 0);
+        shot.write_flag_reg(flag::OUT | flag::CONTROL);
+        shot.fb_timer = -1;
+        shot.fb_status = false;
+        shot.current(reals::TWO);
+        assert!(shot.out_flag && shot.control && shot.act == 0);
+        shot.current(reals::TWO + 1);
+        assert!(!shot.out_flag && !shot.control);
+        assert_eq!((shot.act, shot.his), (error::OVERLOAD, error::OVERLOAD));
+        assert_eq!((shot.fb_timer, shot.fb_status), (512, true));
+        assert_eq!(shot.out_current, reals::TWO + 1);
+    }
+
+    #[test]
+    fn enablebit_6_silences_the_bit_but_not_the_trip() {
+        let mut silent = channel(1 << 6, 0x10, 0, 0);
+        silent.write_flag_reg(flag::OUT);
+        silent.current(0x4040_0000);
+        assert!(!silent.out_flag && silent.act == 0 && silent.his == 0);
+    }
+
+    #[test]
+    fn flag_reg_clears_overload_and_prg_error_first() {
+        let mut input = channel(0, 0, 0, 0);
+        input.set_error(error::OVERLOAD | error::UNDERLOAD);
+        input.write_flag_reg(flag::OUT);
+        assert_eq!(input.act, error::UNDERLOAD | error::PRG_ERROR);
+        assert!(!input.out_flag);
+        input.write_flag_reg(0);
+        assert_eq!(input.act, error::UNDERLOAD);
+        let all = error::OVERLOAD | error::UNDERLOAD | error::PRG_ERROR;
+        assert_eq!(input.his, all);
+    }
+
+    #[test]
+    fn bits_7_and_3_are_judged_apart() {
+        let mut output = channel(0, 0x10, 0, 0);
+        output.write_flag_reg(flag::OUT | flag::CONTROL);
+        assert!(output.out_flag && !output.control);
+        assert_eq!(output.act, error::PRG_ERROR);
+        for functions in [0x20, 0x30, 0x50] {
+            let mut special = channel(0, functions, 0, 0);
+            special.write_flag_reg(flag::OUT | flag::CONTROL);
+            assert!(special.out_flag && special.control && special.act == 0);
+        }
+    }
+
+    #[test]
+    fn flag_reg_ignores_the_other_bits() {
+        let mut output = channel(0, 0x10, 2, 0);
+        output.write_flag_reg(0b0111_0111);
+        assert_eq!(output, channel(0, 0x10, 2, 0));
+    }
+
+    #[test]
+    fn out_flags_skips_the_change_rule_when_rising_only() {
+        let mut named = channel(0, 0x10, 2, 0);
+        named.write_out_flags_bit(true);
+        assert!(named.out_flag && named.fb_timer == 0 && !named.fb_status);
+        named.write_out_flags_bit(false);
+        assert!(!named.out_flag && named.fb_timer == 512 && named.fb_status);
+    }
+
+    #[test]
+    fn out_flags_clears_no_act_bit() {
+        let mut input = channel(0, 0, 0, 0);
+        input.set_error(error::OVERLOAD);
+        input.write_out_flags_bit(true);
+        assert!(!input.out_flag);
+        assert_eq!(input.act, error::OVERLOAD | error::PRG_ERROR);
+    }
+
+    #[test]
+    fn writing_ch_config_switches_off_under_the_new_settings() {
+        let mut shot = channel(0, 0x20, 0, 0);
+        shot.write_flag_reg(flag::OUT | flag::CONTROL);
+        shot.internal_state = true;
+        shot.fb_timer = 7;
+        shot.write_config(Config::from_bytes([0, 0, 0, 9]));
+        assert!(!shot.out_flag && !shot.control && !shot.internal_state);
+        assert_eq!((shot.fb_timer, shot.fb_status), (512, true));
+        shot.fb_timer = 7;
+        shot.write_config(shot.kept.config);
+        assert_eq!((shot.fb_timer, shot.fb_status), (7, false));
+    }
+
+    #[test]
+    fn flag_reg_reads_bit_by_bit() {
+        let mut all = channel(0, 0x20, 1, 2);
+        assert_eq!(all.flag_reg(0), 0);
+        assert_eq!(all.flag_reg(0b11), flag::IN_A | flag::IN_B);
+        all.out_flag = true;
+        assert_eq!(all.flag_reg(0), 0x80);
+        all.in_flag = true;
+        assert_eq!(all.flag_reg(0), 0xC0);
+        all.control = true;
+        assert_eq!(all.flag_reg(0), 0xC8);
+        all.fb_status = true;
+        assert_eq!(all.flag_reg(0), 0xCC);
+        all.his = 0x7F;
+        assert_eq!(all.flag_reg(0), 0xCC);
+        all.act = error::UNDERLOAD;
+        assert_eq!(all.flag_reg(0), 0xCE);
+    }
+}

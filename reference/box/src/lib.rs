@@ -1,0 +1,29 @@
+//! An independent model of the PD 3120 channel box.
+//!
+//! Written from document 01 (the scope) and the PD 3120 manual, one module a
+//! section, in place and with integers alone: Reals are bit patterns of 32
+//! bits that [`reals`] takes apart, times are counts. Sentences in quotation
+//! marks are document 01's; those after "Manual:" are the manual's.
+//!
+//! "Built: service channel 0, digital channels 1 to 16, common channel 17,
+//! setup image."
+
+pub mod calls;
+pub mod channel;
+pub mod errors;
+pub mod image;
+pub mod reals;
+pub mod registers;
+pub mod tick;
+
+#[cfg(test)]
+mod bench;
+#[cfg(test)]
+mod proved_table;
+#[cfg(test)]
+mod slips;
+
+pub use calls::{Answer, ChannelBox};
+
+/// The number of digital channels.
+pub const CHANNELS: usize = 16;
