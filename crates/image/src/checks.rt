@@ -9,14 +9,14 @@ use crate::sizes;
 use integers::bytes;
 use numbers::written;
 
-pub fn size_right(img: &[u8]) -> bool
+pub(crate) fn size_right(img: &[u8]) -> bool
     ensures { λ r. ⌜ r ≡ sizeRight (now (img .entry)) ⌝ }
 {
     img.len() == sizes::IMAGE
 }
 
 // The other questions are put to an image that has its 717 bytes.
-pub fn counts_right(img: &[u8]) -> bool
+pub(crate) fn counts_right(img: &[u8]) -> bool
     requires { ⌜ length (now img) ≡ imageSize ⌝ }
     ensures { λ r. ⌜ r ≡ countsRight (now (img .entry)) ⌝ }
 {
@@ -27,7 +27,7 @@ pub fn counts_right(img: &[u8]) -> bool
 }
 
 // The sum of the bytes.
-pub fn sum(s: &[u8]) -> u32
+pub(crate) fn sum(s: &[u8]) -> u32
     requires { ⌜ length (now s) ≤ imageSize ⌝ }
     ensures { λ r. ⌜ r ≡ total (now (s .entry)) ⌝ }
 {
@@ -40,7 +40,7 @@ pub fn sum(s: &[u8]) -> u32
     n
 }
 
-pub fn sum_right(img: &[u8]) -> bool
+pub(crate) fn sum_right(img: &[u8]) -> bool
     requires { ⌜ length (now img) ≡ imageSize ⌝ }
     ensures { λ r. ⌜ r ≡ sumRight (now (img .entry)) ⌝ }
 {
@@ -91,7 +91,7 @@ fn entries_allowed(s: &[u8]) -> bool
     all
 }
 
-pub fn values_allowed(img: &[u8]) -> bool
+pub(crate) fn values_allowed(img: &[u8]) -> bool
     requires { ⌜ length (now img) ≡ imageSize ⌝ }
     ensures { λ r. ⌜ r ≡ valuesAllowed (now (img .entry)) ⌝ }
 {

@@ -26,7 +26,7 @@ use model::Shared;
 use model::Timers;
 use numbers::reals;
 
-pub fn timer_of(s: &[u8]) -> TimerCount
+pub(crate) fn timer_of(s: &[u8]) -> TimerCount
     requires { ⌜ length (now s) ≡ 4 ⌝ }
     ensures { λ r. ⌜ r ≡ timer (signedNumber (now (s .entry))) ⌝ }
 {
@@ -69,7 +69,7 @@ fn no_errors() -> Errors
 }
 
 // A channel with these values, kept and working, and all else 0.
-pub fn restore(
+pub(crate) fn restore(
     config: Config,
     presets: Timers,
     min: f32,
@@ -150,7 +150,7 @@ fn channel_of(s: &[u8]) -> Channel
 }
 
 // The channels from their entries.
-pub fn channels_of(s: &[u8]) -> [Channel; 16]
+pub(crate) fn channels_of(s: &[u8]) -> [Channel; 16]
     requires { ⌜ 16 * entrySize ≤ length (now s) ⌝ }
     ensures { λ r. ⌜ r ≡ map restored (entriesFrom 16 (now (s .entry))) ⌝ }
 {
@@ -166,7 +166,7 @@ pub fn channels_of(s: &[u8]) -> [Channel; 16]
 }
 
 // The box that an image's settings power up to.
-pub fn box_of(img: &[u8]) -> Module
+pub(crate) fn box_of(img: &[u8]) -> Module
     requires { ⌜ length (now img) ≡ imageSize ⌝ }
     ensures { λ r. ⌜ r ≡ started (decode (now (img .entry))) ⌝ }
 {

@@ -135,7 +135,7 @@ fn put_module(s: Shared, buf: &mut [u8])
 }
 
 // All before the sum.
-pub fn put_body(m: Module, buf: &mut [u8])
+pub(crate) fn put_body(m: Module, buf: &mut [u8])
     requires { ⌜ imageSize ≤ length (now buf) ⌝ }
     ensures { λ _. ⌜ (now (buf .exit) ≡ pasted (now (buf .entry)) 0 (body (setupOf m))) × (length (body (setupOf m)) ≡ sumPlace) ⌝ }
 {
@@ -146,7 +146,7 @@ pub fn put_body(m: Module, buf: &mut [u8])
 }
 
 // The sum of what stands before it.
-pub fn put_sum(buf: &mut [u8])
+pub(crate) fn put_sum(buf: &mut [u8])
     requires { ⌜ imageSize ≤ length (now buf) ⌝ }
     ensures { λ _. ⌜ now (buf .exit) ≡ pasted (now (buf .entry)) sumPlace (bytesOf 2 (total (take sumPlace (now (buf .entry))) % 65536)) ⌝ }
 {

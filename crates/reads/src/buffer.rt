@@ -32,7 +32,7 @@ pub(crate) fn hold(src: &[u8]) -> RegisterBytes
 }
 
 // Bytes of the buffer past the register's are unchanged.
-pub fn copy_out(b: RegisterBytes, buf: &mut [u8])
+pub(crate) fn copy_out(b: RegisterBytes, buf: &mut [u8])
     requires { ⌜ (b .len ≤ width) × (b .len ≤ length (now buf)) ⌝ }
     ensures { λ _. ⌜ now (buf .exit) ≡ overwritten (take (b .len) (b .bytes)) (now (buf .entry)) ⌝ }
 {
