@@ -7,6 +7,7 @@ ghost use Rattle.model.specs.Tick.{ticked};
 ghost use Rattle.model.specs.Calls.{read, write, level, current, step, cleared, preset, stored};
 ghost use Rattle.pd3120.specs.Answers.{answeredBy, sampledBy, outputAt, requestOf, lentAfter, PoweredUp};
 
+pub mod replies;
 mod samples;
 
 use model::Call;

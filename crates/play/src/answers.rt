@@ -1,0 +1,114 @@
+// The line that a call answers with.
+ghost use Prim.Native.Nat.{_≤_};
+ghost use lib.ListN.{length};
+use model::Reply;
+use pd3120::replies;
+use script::parameters::Wrong;
+use script::print;
+
+// NAME NUMBER
+pub fn put_plain(out: &mut [u8], at: usize, name: &[u8], reply: Reply) -> usize
+    requires { ⌜ at ≤ length (now out) ⌝ }
+    ensures { λ r. ⌜ r ≤ length (now (out .exit)) ⌝ }
+{
+    let t1 = print::put(out, at, name);
+    let t2 = print::put_number(out, t1, replies::number(reply) as u64);
+    print::put(out, t2, b"\n")
+}
+
+// NAME NUMBER LENGTH
+fn put_start(out: &mut [u8], at: usize, name: &[u8], reply: Reply) -> usize
+    requires { ⌜ at ≤ length (now out) ⌝ }
+    ensures { λ r. ⌜ r ≤ length (now (out .exit)) ⌝ }
+{
+    let t1 = print::put(out, at, name);
+    let t2 = print::put_number(out, t1, replies::number(reply) as u64);
+    print::put_number(out, t2, replies::length(reply) as u64)
+}
+
+// BUFFER, which ends the line.
+fn put_buffer(out: &mut [u8], at: usize, buffer: &[u8]) -> usize
+    requires { ⌜ at ≤ length (now out) ⌝ }
+    ensures { λ r. ⌜ r ≤ length (now (out .exit)) ⌝ }
+{
+    let to = print::put_bytes(out, at, buffer);
+    print::put(out, to, b"\n")
+}
+
+// store NUMBER LENGTH BUFFER
+pub fn put_store(out: &mut [u8], at: usize, reply: Reply, buffer: &[u8]) -> usize
+    requires { ⌜ at ≤ length (now out) ⌝ }
+    ensures { λ r. ⌜ r ≤ length (now (out .exit)) ⌝ }
+{
+    let to = put_start(out, at, b"store", reply);
+    put_buffer(out, to, buffer)
+}
+
+// DATAERROR GENERALERROR
+fn put_bits(out: &mut [u8], at: usize, data_error: bool, general_error: bool) -> usize
+    requires { ⌜ at ≤ length (now out) ⌝ }
+    ensures { λ r. ⌜ r ≤ length (now (out .exit)) ⌝ }
+{
+    let to = print::put_bit(out, at, data_error);
+    print::put_bit(out, to, general_error)
+}
+
+// read NUMBER LENGTH DATAERROR GENERALERROR BUFFER
+pub fn put_read(
+    out: &mut [u8],
+    at: usize,
+    reply: Reply,
+    data_error: bool,
+    general_error: bool,
+    buffer: &[u8],
+) -> usize
+    requires { ⌜ at ≤ length (now out) ⌝ }
+    ensures { λ r. ⌜ r ≤ length (now (out .exit)) ⌝ }
+{
+    let t1 = put_start(out, at, b"read", reply);
+    let t2 = put_bits(out, t1, data_error, general_error);
+    put_buffer(out, t2, buffer)
+}
+
+// write NUMBER 0 DATAERROR GENERALERROR
+pub fn put_write(
+    out: &mut [u8],
+    at: usize,
+    reply: Reply,
+    data_error: bool,
+    general_error: bool,
+) -> usize
+    requires { ⌜ at ≤ length (now out) ⌝ }
+    ensures { λ r. ⌜ r ≤ length (now (out .exit)) ⌝ }
+{
+    let t1 = put_start(out, at, b"write", reply);
+    let t2 = put_bits(out, t1, data_error, general_error);
+    print::put(out, t2, b"\n")
+}
+
+// Why a line is no call.
+fn put_why(out: &mut [u8], at: usize, why: Wrong) -> usize
+    requires { ⌜ at ≤ length (now out) ⌝ }
+    ensures { λ r. ⌜ r ≤ length (now (out .exit)) ⌝ }
+{
+    match why {
+        Wrong::LineTooLong => print::put(out, at, b": line too long\n"),
+        Wrong::UnknownCall => print::put(out, at, b": unknown call\n"),
+        Wrong::WordCount => print::put(out, at, b": wrong number of words\n"),
+        Wrong::NotHexadecimal => print::put(out, at, b": not a hexadecimal string\n"),
+        Wrong::OddDigits => print::put(out, at, b": odd number of hexadecimal digits\n"),
+        Wrong::NotDecimal => print::put(out, at, b": not a decimal number\n"),
+        Wrong::TooLarge => print::put(out, at, b": number too large\n"),
+        Wrong::NotBit => print::put(out, at, b": not 0 or 1\n"),
+    }
+}
+
+// error LINE: WHY
+pub fn put_error(out: &mut [u8], at: usize, line: u64, why: Wrong) -> usize
+    requires { ⌜ at ≤ length (now out) ⌝ }
+    ensures { λ r. ⌜ r ≤ length (now (out .exit)) ⌝ }
+{
+    let t1 = print::put(out, at, b"error");
+    let t2 = print::put_number(out, t1, line);
+    put_why(out, t2, why)
+}

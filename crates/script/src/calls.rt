@@ -1,0 +1,184 @@
+// The words of one call, by its name.
+ghost use Prim.Native.Nat.{_≤_};
+ghost use lib.ListN.{length};
+use crate::digits;
+use crate::parameters;
+use crate::parameters::Wrong;
+use crate::words;
+
+// What `store` lends, and how much of it at most.
+const LENT: u8 = 0xA5;
+
+const LONGEST_STORE: u32 = 4096;
+
+// What a line asks for. The bytes of an image, a write or a lent buffer stand beside it.
+pub enum Line {
+    Empty,
+    Error(Wrong),
+    Power,
+    Store,
+    Read(u16),
+    Write(u16),
+    Level(u8, bool),
+    Current(u8, u32),
+    Tick(u32),
+}
+
+// A line, and how many bytes it has put at the start of the lent space.
+pub struct Parsed {
+    pub line: Line,
+    pub n: usize,
+}
+
+pub fn plain(line: Line) -> Parsed
+    ensures { λ r. ⌜ r .n ≤ 0 ⌝ }
+{
+    Parsed { line: line, n: 0 }
+}
+
+pub fn wrong(why: Wrong) -> Parsed
+    ensures { λ r. ⌜ r .n ≤ 0 ⌝ }
+{
+    plain(Line::Error(why))
+}
+
+// The line with the byte string of its last word; '-' is an empty one.
+fn with_bytes(line: Line, word: &[u8], space: &mut [u8]) -> Parsed
+    ensures { λ r. ⌜ r .n ≤ length (now (space .exit)) ⌝ }
+{
+    if words::same(word, b"-") {
+        return plain(line);
+    }
+    if !digits::only_digits(word, 16) {
+        return wrong(Wrong::NotHexadecimal);
+    }
+    if word.len() % 2 == 1 {
+        return wrong(Wrong::OddDigits);
+    }
+    let n = digits::parse_bytes(word, space);
+    Parsed { line: line, n: n }
+}
+
+pub fn parse_power(count: usize, word: &[u8], space: &mut [u8]) -> Parsed
+    ensures { λ r. ⌜ r .n ≤ length (now (space .exit)) ⌝ }
+{
+    if count != 1 {
+        return wrong(Wrong::WordCount);
+    }
+    with_bytes(Line::Power, word, space)
+}
+
+// Fills the start of the space with what `store` lends, as far as there is room; answers how far.
+fn lend(space: &mut [u8], n: usize) -> usize
+    ensures { λ r. ⌜ r ≤ length (now (space .exit)) ⌝ }
+{
+    let mut i = 0;
+    while i < n {
+        if space.len() <= i {
+            return i;
+        }
+        space[i] = LENT;
+        i += 1;
+    }
+    i
+}
+
+pub fn parse_store(count: usize, word: &[u8], space: &mut [u8]) -> Parsed
+    ensures { λ r. ⌜ r .n ≤ length (now (space .exit)) ⌝ }
+{
+    if count != 1 {
+        return wrong(Wrong::WordCount);
+    }
+    let length = parameters::decimal(word, LONGEST_STORE);
+    let length_why = length.why;
+    if !length.right {
+        return wrong(length_why);
+    }
+    let n = lend(space, length.value as usize);
+    Parsed {
+        line: Line::Store,
+        n: n,
+    }
+}
+
+pub fn parse_wire(
+    writes: bool,
+    count: usize,
+    first: &[u8],
+    second: &[u8],
+    space: &mut [u8],
+) -> Parsed
+    ensures { λ r. ⌜ r .n ≤ length (now (space .exit)) ⌝ }
+{
+    if count != 2 {
+        return wrong(Wrong::WordCount);
+    }
+    let swno = parameters::hexadecimal(first, 65535);
+    let swno_why = swno.why;
+    if !swno.right {
+        return wrong(swno_why);
+    }
+    let n = swno.value as u16;
+    if writes {
+        return with_bytes(Line::Write(n), second, space);
+    }
+    with_bytes(Line::Read(n), second, space)
+}
+
+pub fn parse_level(count: usize, first: &[u8], second: &[u8]) -> Parsed
+    ensures { λ r. ⌜ r .n ≤ 0 ⌝ }
+{
+    if count != 2 {
+        return wrong(Wrong::WordCount);
+    }
+    let channel = parameters::decimal(first, 255);
+    let channel_why = channel.why;
+    if !channel.right {
+        return wrong(channel_why);
+    }
+    let k = channel.value as u8;
+    if words::same(second, b"0") {
+        return plain(Line::Level(k, false));
+    }
+    if words::same(second, b"1") {
+        return plain(Line::Level(k, true));
+    }
+    wrong(Wrong::NotBit)
+}
+
+pub fn parse_current(count: usize, first: &[u8], second: &[u8]) -> Parsed
+    ensures { λ r. ⌜ r .n ≤ 0 ⌝ }
+{
+    if count != 2 {
+        return wrong(Wrong::WordCount);
+    }
+    let channel = parameters::decimal(first, 255);
+    let channel_why = channel.why;
+    if !channel.right {
+        return wrong(channel_why);
+    }
+    let k = channel.value as u8;
+    let real = parameters::real(second);
+    let real_why = real.why;
+    if !real.right {
+        return wrong(real_why);
+    }
+    plain(Line::Current(k, real.value))
+}
+
+pub fn parse_tick(count: usize, word: &[u8]) -> Parsed
+    ensures { λ r. ⌜ r .n ≤ 0 ⌝ }
+{
+    if count == 0 {
+        return plain(Line::Tick(1));
+    }
+    if count != 1 {
+        return wrong(Wrong::WordCount);
+    }
+    let ticks = parameters::decimal(word, u32::MAX);
+    let ticks_why = ticks.why;
+    if !ticks.right {
+        return wrong(ticks_why);
+    }
+    plain(Line::Tick(ticks.value))
+}

@@ -1,0 +1,118 @@
+// What a line of a script asks for.
+ghost use Prim.Native.Nat.{_≤_};
+ghost use lib.ListN.{length};
+use crate::calls;
+use crate::calls::Line;
+use crate::calls::Parsed;
+use crate::parameters::Wrong;
+use crate::words;
+
+// The most bytes of a line without its line feed.
+pub const LONGEST_LINE: usize = 16384;
+
+// The names of calls.
+enum Name {
+    Power,
+    Store,
+    Read,
+    Write,
+    Level,
+    Current,
+    Tick,
+    Unknown,
+}
+
+fn name_of(word: &[u8]) -> Name {
+    if words::same(word, b"power") {
+        return Name::Power;
+    }
+    if words::same(word, b"store") {
+        return Name::Store;
+    }
+    if words::same(word, b"read") {
+        return Name::Read;
+    }
+    if words::same(word, b"write") {
+        return Name::Write;
+    }
+    if words::same(word, b"level") {
+        return Name::Level;
+    }
+    if words::same(word, b"current") {
+        return Name::Current;
+    }
+    if words::same(word, b"tick") {
+        return Name::Tick;
+    }
+    Name::Unknown
+}
+
+fn parse_call(name: Name, count: usize, first: &[u8], second: &[u8], space: &mut [u8]) -> Parsed
+    ensures { λ r. ⌜ r .n ≤ length (now (space .exit)) ⌝ }
+{
+    match name {
+        Name::Power => calls::parse_power(count, first, space),
+        Name::Store => calls::parse_store(count, first, space),
+        Name::Read => calls::parse_wire(false, count, first, second, space),
+        Name::Write => calls::parse_wire(true, count, first, second, space),
+        Name::Level => calls::parse_level(count, first, second),
+        Name::Current => calls::parse_current(count, first, second),
+        Name::Tick => calls::parse_tick(count, first),
+        Name::Unknown => calls::wrong(Wrong::UnknownCall),
+    }
+}
+
+// How many words there are after the call's name; 3 stands for any more than 2.
+fn count_words(first: bool, second: bool, third: bool) -> usize {
+    if third {
+        return 3;
+    }
+    if second {
+        return 2;
+    }
+    if first { 1 } else { 0 }
+}
+
+// The words after the call's name.
+fn parse_rest(name: Name, rest: &[u8], space: &mut [u8]) -> Parsed
+    ensures { λ r. ⌜ r .n ≤ length (now (space .exit)) ⌝ }
+{
+    let first = words::skip(rest, 0, true);
+    let first_end = words::skip(rest, first, false);
+    let second = words::skip(rest, first_end, true);
+    let second_end = words::skip(rest, second, false);
+    let third = words::skip(rest, second_end, true);
+    let count = count_words(first < rest.len(), second < rest.len(), third < rest.len());
+    parse_call(
+        name,
+        count,
+        &rest[first..first_end],
+        &rest[second..second_end],
+        space,
+    )
+}
+
+// The call before '#'.
+fn parse_text(text: &[u8], space: &mut [u8]) -> Parsed
+    ensures { λ r. ⌜ r .n ≤ length (now (space .exit)) ⌝ }
+{
+    let start = words::skip(text, 0, true);
+    if start == text.len() {
+        return calls::plain(Line::Empty);
+    }
+    let end = words::skip(text, start, false);
+    let name = name_of(&text[start..end]);
+    parse_rest(name, &text[end..], space)
+}
+
+// What is wrong is the first of: the line's length, the call's name, the number of words, the words
+// from left to right.
+pub fn parse(line: &[u8], space: &mut [u8]) -> Parsed
+    ensures { λ r. ⌜ r .n ≤ length (now (space .exit)) ⌝ }
+{
+    if LONGEST_LINE < line.len() {
+        return calls::wrong(Wrong::LineTooLong);
+    }
+    let end = words::find(line, 0, b'#');
+    parse_text(&line[0..end], space)
+}
