@@ -5,6 +5,7 @@ ghost use lib.ListN.{length};
 use crate::answers;
 use model::Module;
 use model::Reply;
+use numbers::reals;
 use script::calls::Line;
 
 pub struct Played {
@@ -88,7 +89,7 @@ fn current(m: Module, channel: u8, real: u32, out: &mut [u8], at: usize) -> Play
     requires { ⌜ at ≤ length (now out) ⌝ }
     ensures { λ r. ⌜ r .to ≤ length (now (out .exit)) ⌝ }
 {
-    let sampled = pd3120::current(m, channel, f32::from_bits(real));
+    let sampled = pd3120::current(m, channel, reals::of_bits(real));
     let after = sampled.after;
     let reply = sampled.reply;
     let to = answers::put_plain(out, at, b"current", reply);

@@ -24,7 +24,7 @@ fn play(text: &mut [u8], space: &mut [u8], out: &mut [u8]) {
     let mut have = 0;
     let mut turns = u64::MAX;
     while 0 < turns {
-        let turn = input::turn(player, text, have, space, out);
+        let turn = input::take_turn(player, text, have, space, out);
         player = turn.player;
         have = turn.have;
         if !turn.more {
