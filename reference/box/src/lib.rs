@@ -11,7 +11,9 @@
 pub mod calls;
 pub mod channel;
 pub mod errors;
+pub mod generator;
 pub mod image;
+pub mod player;
 pub mod reals;
 pub mod registers;
 pub mod tick;

@@ -1,8 +1,8 @@
 //! The kinds of script: which actions each takes, and how often.
 
-use crate::actions::{self as act, Action};
-use crate::script::Script;
-use crate::values::Flavour;
+use reference_box::generator::actions::{self as act, Action};
+use reference_box::generator::script::Script;
+use reference_box::generator::values::Flavour;
 
 #[derive(Clone, Copy, Debug, PartialEq, Eq)]
 pub enum Kind {
@@ -336,7 +336,7 @@ pub fn generate(seed: u64, calls: usize, kind: Kind) -> String {
     open(&mut script, kind);
     let closing = closing(calls);
     let end = calls.saturating_sub(closing.length);
-    while script.calls() < end {
+    while script.length() < end {
         phase(&mut script, kind, end);
     }
     (closing.survey)(&mut script);
@@ -371,8 +371,8 @@ fn phase(script: &mut Script, kind: Kind, end: usize) {
         act::power(script);
     }
     let length = script.random.within(10, 80) as usize;
-    let stop = end.min(script.calls() + length);
-    while script.calls() < stop {
+    let stop = end.min(script.length() + length);
+    while script.length() < stop {
         let action = script.random.weighted(current.table());
         action(script);
     }

@@ -5,11 +5,7 @@
 //! feedback, currents, errors, images, refusals, reset, ends (of ranges), save
 //! (the ten-hour save), and mixed, which is all of them and the default.
 
-mod actions;
 mod kinds;
-mod random;
-mod script;
-mod values;
 
 use kinds::Kind;
 use std::io::{self, Write};

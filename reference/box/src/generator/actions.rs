@@ -1,10 +1,10 @@
 //! What a script may do next: each action writes a call, or a few that belong
 //! together.
 
-use crate::script::Script;
-use crate::values;
-use reference_box::image::{self, LENGTH};
-use reference_box::registers::{Register, HIGHEST_SWNO};
+use super::script::Script;
+use super::values;
+use crate::image::{self, LENGTH};
+use crate::registers::{Register, HIGHEST_SWNO};
 
 pub type Action = fn(&mut Script);
 

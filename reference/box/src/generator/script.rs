@@ -1,9 +1,11 @@
 //! The script being written, and what its writer knows of the box.
 
-use crate::random::Random;
-use crate::values::{self, Flavour};
-use reference_box::registers::{Access, Digital, Register};
-use reference_box::CHANNELS;
+use super::random::Random;
+use super::values::{self, Flavour};
+use crate::player::Call;
+use crate::registers::{Access, Digital, Register};
+use crate::CHANNELS;
+use std::fmt::Write;
 
 /// Ticks from one save to the next.
 const SAVE: u64 = 1_152_000;
@@ -21,8 +23,7 @@ pub struct Script {
     touched: u16,
     write_enable: bool,
     ticks: u64,
-    calls: usize,
-    text: String,
+    calls: Vec<Call>,
 }
 
 impl Script {
@@ -36,19 +37,28 @@ impl Script {
             touched: 0,
             write_enable: false,
             ticks: 0,
-            calls: 0,
-            text: String::new(),
+            calls: Vec::new(),
         };
         script.refocus();
         script
     }
 
-    pub fn calls(&self) -> usize {
-        self.calls
+    /// How many calls there are.
+    pub fn length(&self) -> usize {
+        self.calls.len()
+    }
+
+    /// The calls so far, which are taken out.
+    pub fn take_calls(&mut self) -> Vec<Call> {
+        std::mem::take(&mut self.calls)
     }
 
     pub fn into_text(self) -> String {
-        self.text
+        let mut text = String::new();
+        for call in self.calls {
+            writeln!(text, "{call}").expect("a string takes all");
+        }
+        text
     }
 
     /// Turns to other channels, two to four of them.
@@ -59,14 +69,8 @@ impl Script {
             .collect();
     }
 
-    fn call(&mut self, line: String) {
-        self.text.push_str(&line);
-        self.text.push('\n');
-        self.calls += 1;
-    }
-
     pub fn power(&mut self, image: &[u8]) {
-        self.call(format!("power {}", hexadecimal(image)));
+        self.calls.push(Call::Power(image.to_vec()));
         self.touched = 0;
         self.restart();
     }
@@ -77,13 +81,13 @@ impl Script {
     }
 
     pub fn store(&mut self, length: usize) {
-        self.call(format!("store {length}"));
+        self.calls.push(Call::Store(length));
     }
 
     /// A read with a lent buffer of random bytes.
     pub fn read(&mut self, swno: u16, length: usize) {
         let lent = self.random.bytes(length);
-        self.call(format!("read {swno:x} {}", hexadecimal(&lent)));
+        self.calls.push(Call::Read(swno, lent));
     }
 
     /// A read with a buffer that is long enough, and now and then longer.
@@ -97,7 +101,7 @@ impl Script {
     }
 
     pub fn write(&mut self, swno: u16, bytes: &[u8]) {
-        self.call(format!("write {swno:x} {}", hexadecimal(bytes)));
+        self.calls.push(Call::Write(swno, bytes.to_vec()));
         match (swno, bytes) {
             (0x0D, [on @ 0..=1]) => self.write_enable = *on == 1,
             (0x03, [0xFF]) => self.restart(),
@@ -136,18 +140,15 @@ impl Script {
     }
 
     pub fn level(&mut self, channel: u8, on: bool) {
-        self.call(format!("level {channel} {}", u8::from(on)));
+        self.calls.push(Call::Level(channel, on));
     }
 
     pub fn current(&mut self, channel: u8, amperes: u32) {
-        self.call(format!("current {channel} {amperes:08x}"));
+        self.calls.push(Call::Current(channel, amperes));
     }
 
     pub fn tick(&mut self, count: u64) {
-        self.call(match count {
-            1 => "tick".to_string(),
-            _ => format!("tick {count}"),
-        });
+        self.calls.push(Call::Tick(count as u32));
         self.ticks += count;
     }
 
@@ -177,11 +178,4 @@ impl Script {
     pub fn digital(&mut self, register: u16) -> u16 {
         u16::from(self.channel()) * 0x10 + register
     }
-}
-
-fn hexadecimal(bytes: &[u8]) -> String {
-    if bytes.is_empty() {
-        return "-".to_string();
-    }
-    bytes.iter().map(|byte| format!("{byte:02x}")).collect()
 }

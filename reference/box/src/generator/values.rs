@@ -1,9 +1,9 @@
 //! Random values: counts, Reals, configurations and images.
 
-use crate::random::Random;
-use reference_box::channel::{Config, Kept};
-use reference_box::image::Settings;
-use reference_box::reals;
+use super::random::Random;
+use crate::channel::{Config, Kept};
+use crate::image::Settings;
+use crate::reals;
 
 /// Reals at the ends of ranges, either side of them, and those that are none.
 const END_REALS: &[u32] = &[
