@@ -258,7 +258,7 @@ fn entry(random: &mut Random, own: u8, focus: &[u8], flavour: Flavour) -> Kept {
         out_preset: preset(random, flavour),
         min_current: limit(random),
         max_current: limit(random),
-        user_reals: random.next().to_be_bytes(),
+        user_reals: random.bits().to_be_bytes(),
         maintenance: random.word().to_be_bytes(),
         user_bytes: random.word().to_be_bytes(),
         counter: count(random, flavour) as i32,

@@ -1,0 +1,95 @@
+use super::*;
+use crate::second::is_for;
+use std::collections::BTreeSet;
+
+/// How many of 400 pairs have something.
+fn pairs_with(has: impl Fn(&Pair) -> bool) -> usize {
+    let pairs = (0..400).map(|seed| Pair::draw(seed, false));
+    pairs.filter(|pair| has(pair)).count()
+}
+
+/// The numbers that a list's calls for some channels are answered with.
+fn numbers(pair: &Pair, channels: &[u8]) -> Vec<String> {
+    let mut device = ChannelBox::default();
+    device.power_up(&pair.image);
+    let mut numbers = Vec::new();
+    for call in &pair.second {
+        let answer = call.clone().make(&mut device);
+        if is_for(call, channels) {
+            numbers.extend(answer.split(' ').nth(1).map(str::to_string));
+        }
+    }
+    numbers
+}
+
+#[test]
+fn the_same_seed_gives_the_same_pair() {
+    let (one, again) = (Pair::draw(5, false), Pair::draw(5, false));
+    assert_eq!(one.first, again.first);
+    assert_eq!(one.second, again.second);
+    assert_eq!(one.image, again.image);
+}
+
+#[test]
+fn the_others_are_all_but_c() {
+    let mut random = Random::new(1);
+    for channel in 1..=16 {
+        let others = (0..100).flat_map(|_| some_others(&mut random, channel));
+        let others: BTreeSet<u8> = others.collect();
+        let expected = (1..=16).filter(|&other| other != channel);
+        assert_eq!(others, expected.collect());
+    }
+}
+
+#[test]
+fn most_pairs_differ() {
+    assert!(pairs_with(|pair| pair.first != pair.second) > 380);
+}
+
+#[test]
+fn channels_are_named_by_images_and_by_writes() {
+    let named = pairs_with(|pair| pair.strangers.len() < 15);
+    let by_image = |pair: &Pair| strangers(pair.channel, &pair.image, &[]);
+    let named_by_writes = pairs_with(|pair| by_image(pair) != pair.strangers);
+    assert!(named > 250 && named_by_writes > 120);
+}
+
+#[test]
+fn own_calls_get_every_number_that_they_can() {
+    for number in ["0", "2", "3", "4", "5", "6", "7", "9"] {
+        let has = |pair: &Pair| numbers(pair, &[pair.channel]).contains(&number.to_string());
+        assert!(pairs_with(has) > 3, "{number}");
+    }
+}
+
+#[test]
+fn strangers_calls_alone_keep_the_watchdog_awake() {
+    let has = |pair: &Pair| {
+        let stretches = pair.first.split(|call| matches!(call, Call::Tick(_)));
+        stretches.rev().skip(1).any(|stretch| {
+            let mut wires = stretch.iter().filter(|call| call.is_wire()).peekable();
+            wires.peek().is_some() && wires.all(|call| is_for(call, &pair.strangers))
+        })
+    };
+    assert!(pairs_with(has) > 200);
+}
+
+#[test]
+fn the_watchdog_is_on_in_many_pairs() {
+    let has = |pair: &Pair| pair.image[2] == 0 && pair.image[5..8] == [0, 0, 0];
+    assert!(pairs_with(has) > 100);
+}
+
+#[test]
+fn a_long_pair_goes_through_the_save() {
+    let pair = Pair::draw(1, true);
+    let ticks = |list: &[Call]| -> u64 {
+        let ticks = list.iter().map(|call| match call {
+            Call::Tick(count) => u64::from(*count),
+            _ => 0,
+        });
+        ticks.sum()
+    };
+    assert!(ticks(&pair.first) >= 1_152_000);
+    assert_eq!(ticks(&pair.first), ticks(&pair.second));
+}
