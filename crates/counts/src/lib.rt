@@ -6,8 +6,10 @@ ghost use Rattle.integers.specs.Integers.{larger};
 ghost use Rattle.counts.specs.Counts.{freeRunTick, watchdogTick, outTimerTick, feedbackTick, operatingStep, counterStep, isNegative, isPositive};
 use integers::signed;
 
+#[repr(C)]
 pub struct TimerCount(pub i32);
 
+#[repr(C)]
 pub struct OperatingCount(pub u32);
 
 // A tick is 1/32 s.

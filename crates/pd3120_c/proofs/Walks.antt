@@ -1,0 +1,9 @@
+pub mod Output
+pub mod Plain
+pub mod PowerUp
+pub mod Read
+pub mod Sample
+pub mod Store
+pub mod Tick
+pub mod Types
+pub mod Write

@@ -1,0 +1,37 @@
+-- `pd3120_current` meets its contract, by the walk of `Walks/Sample.antt`. Assumes nothing.
+use contract.Running.{givenOf, tables, tablesOf}
+use mathlib.Core.Path.{_≡_, ap}
+use Prim.Native.Nat.{ℕ}
+use lib.Ieee.{Float}
+use Rattle.model.specs.declared.Module.{Module}
+use Rattle.model.specs.Calls.{current, step}
+use Rattle.pd3120_c.specs.declared.Done.{Done}
+use Rattle.pd3120_c.specs.Codes.{doneBy, Left}
+use denote.Triple.Spec.{tripleOf}
+use denote.Triple.Table.{entered, cited}
+use Rattle.pd3120_c.proofs.Walks.Types.{held, byte, real, answer}
+use Rattle.pd3120_c.proofs.Walks.Sample.{Called, meets}
+use Rattle.pd3120_c.proofs.calls.current.Symbol as call-def
+use Rattle.pd3120_c.proofs.calls.current.Symbol.{name as #call}
+use Rattle.pd3120_c.proofs.calls.current.Met as call-thm
+use Rattle.pd3120_c.proofs.pd3120_current.Key.{name as #export}
+use Rattle.pd3120_c.proofs.pd3120_current as exported
+use Rattle.pd3120_c.proofs.pd3120_current.Statement as stated
+use Rattle.pd3120_c.proofs.pd3120_current.Code as code
+
+abbrev Gives : Module → ℕ → Float → Done → Type 0
+Gives m k x d = d ≡ doneBy (step m (current k x))
+
+abbrev Leaves : Module → ℕ → Float → Module → ℕ → Type 0
+Leaves m k x m′ code = Left (step m (current k x)) m′ code
+
+follows : (m : Module) (k : ℕ) (x : Float) (d : Done) → Gives m k x d → Leaves m k x (d .after) (d .code)
+follows m k x d e = (ap (λ (a : Done). a .after) e, ap (λ (a : Done). a .code) e)
+
+pub pd3120-current-spec : {M : Type 1} → stated.statement M
+unfolding code.routine tablesOf
+pd3120-current-spec 𝓤 H 𝓜 𝓖 𝓡 =
+    entered 𝓤 H (tripleOf 𝓤 H (𝓖 .A) exported.signature (exported.spec 𝓤 H (𝓖 .A) (𝓜 .mem) (𝓡 .run)))
+    (tables 𝓤 H 𝓜 𝓡 code.env .C) (tables 𝓤 H 𝓜 𝓡 code.env .Λ) #export code.function (code.unfolded 𝓤 H 𝓜 𝓡)
+    (meets held byte real answer 𝓤 H (𝓖 .A) (givenOf 𝓤 H 𝓜 𝓖) #call Gives Leaves follows (tablesOf 𝓤 H 𝓜 (tables 𝓤 H 𝓜 𝓡 code.env))
+    (cited 𝓤 H (Called held byte real answer 𝓤 H (𝓖 .A) Gives) 𝓜 𝓡 code.env #call call-def.routine code.calls-pd3120-c·calls·current (call-thm.met 𝓤 H 𝓜 𝓖 𝓡)))

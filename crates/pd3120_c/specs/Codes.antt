@@ -1,0 +1,47 @@
+-- An answer in one number, and what each exported call leaves in the caller's memory. Definitions only.
+use mathlib.Core.Path.{_≡_}
+use mathlib.Core.Bool.{Bool, false, cond}
+use mathlib.Core.List.{List}
+use Prim.Native.Nat.{ℕ, _+_, _*_}
+use Rattle.model.specs.declared.Module.{Module}
+use Rattle.model.specs.declared.Reply.{Reply}
+use Rattle.model.specs.Image.{imageSize}
+use Rattle.model.specs.Questions.{numberOf, lengthOf, powerUpReply, storeReply}
+use Rattle.model.specs.Calls.{Answer, plainAnswer, Stepped, powerUp, stored}
+use Rattle.pd3120_c.specs.declared.Done.{Done}
+
+-- no answer is longer than an image
+abbrev pub longest : ℕ
+longest = imageSize
+
+-- bits 0 to 7 the number, bits 8 to 23 the length, bit 24 DataError, bit 25 GeneralError
+abbrev pub packed : ℕ → ℕ → Bool → Bool → ℕ
+packed number size data-error general-error = number + size * 256 + cond data-error 16777216 0 + cond general-error 33554432 0
+
+abbrev pub replyCode : Reply → Bool → Bool → ℕ
+replyCode r data-error general-error = packed (numberOf r) (lengthOf r) data-error general-error
+
+abbrev pub answerCode : Answer → ℕ
+answerCode a = replyCode (a .reply) (a .data-error) (a .general-error)
+
+-- the module that a call leaves, and the code of its answer
+abbrev pub doneBy : Stepped → Done
+doneBy s = record { after = s .box; code = answerCode (s .answer) }
+
+abbrev pub LentBy : Stepped → Done → List ℕ → Type 0
+LentBy s d lent′ = (d ≡ doneBy s) × (lent′ ≡ s .answer .buffer)
+
+-- power-up answers its number alone
+abbrev pub started : List ℕ → Stepped
+started img = record { answer = plainAnswer (powerUpReply img); box = powerUp img }
+
+-- ---- what the caller has after a call: m′ in its module, code as the answer, lent′ in its buffer
+abbrev pub Left : Stepped → Module → ℕ → Type 0
+Left s m′ code = (m′ ≡ s .box) × (code ≡ answerCode (s .answer))
+
+abbrev pub LeftLent : Stepped → Module → ℕ → List ℕ → Type 0
+LeftLent s m′ code lent′ = Left s m′ code × (lent′ ≡ s .answer .buffer)
+
+-- storing answers its number and length, and changes the buffer alone
+abbrev pub Stored : Module → List ℕ → ℕ → List ℕ → Type 0
+Stored m lent code lent′ = (code ≡ replyCode (storeReply lent) false false) × (lent′ ≡ stored m lent)

@@ -1,0 +1,88 @@
+// The C boundary of the box: every call under a C name, over a module in the caller's memory. A
+// wire call's bytes stand in the caller's buffer, and its answer is one number (specs/Codes.antt).
+// No function asks anything of its caller beyond what a reference itself carries.
+ghost use mathlib.Core.Path.{_≡_};
+ghost use Rattle.model.specs.Calls.{read, write, level, current, step};
+ghost use Rattle.model.specs.Tick.{ticked};
+ghost use Rattle.pd3120.specs.Answers.{outputAt};
+ghost use Rattle.pd3120_c.specs.Codes.{started, Left, LeftLent, Stored};
+
+mod calls;
+mod codes;
+
+use model::Module;
+
+// The module that a call leaves, and the code of its answer.
+pub struct Done {
+    pub after: Module,
+    pub code: u32,
+}
+
+// A refused image gives the box of all-zero settings.
+#[no_mangle]
+pub extern "C" fn pd3120_power_up(m: &mut Module, image: &[u8]) -> u32
+    ensures { λ r. ⌜ Left (started (now (image .entry))) (now (m .exit)) r ⌝ }
+{
+    let done = calls::power_up(image);
+    *m = done.after;
+    done.code
+}
+
+// The kept values, as the first 717 bytes of the buffer.
+#[no_mangle]
+pub extern "C" fn pd3120_store(m: &Module, buf: &mut [u8]) -> u32
+    ensures { λ r. ⌜ Stored (now (m .entry)) (now (buf .entry)) r (now (buf .exit)) ⌝ }
+{
+    calls::store(*m, buf)
+}
+
+#[no_mangle]
+pub extern "C" fn pd3120_read(m: &mut Module, swno: u16, buf: &mut [u8]) -> u32
+    ensures { λ r. ⌜ LeftLent (step (now (m .entry)) (read swno (now (buf .entry)))) (now (m .exit)) r (now (buf .exit)) ⌝ }
+{
+    let done = calls::read(*m, swno, buf);
+    *m = done.after;
+    done.code
+}
+
+#[no_mangle]
+pub extern "C" fn pd3120_write(m: &mut Module, swno: u16, bytes: &[u8]) -> u32
+    ensures { λ r. ⌜ Left (step (now (m .entry)) (write swno (now (bytes .entry)))) (now (m .exit)) r ⌝ }
+{
+    let done = calls::write(*m, swno, bytes);
+    *m = done.after;
+    done.code
+}
+
+#[no_mangle]
+pub extern "C" fn pd3120_level(m: &mut Module, channel: u8, on: bool) -> u32
+    ensures { λ r. ⌜ Left (step (now (m .entry)) (level channel on)) (now (m .exit)) r ⌝ }
+{
+    let done = calls::level(*m, channel, on);
+    *m = done.after;
+    done.code
+}
+
+#[no_mangle]
+pub extern "C" fn pd3120_current(m: &mut Module, channel: u8, amperes: f32) -> u32
+    ensures { λ r. ⌜ Left (step (now (m .entry)) (current channel amperes)) (now (m .exit)) r ⌝ }
+{
+    let done = calls::current(*m, channel, amperes);
+    *m = done.after;
+    done.code
+}
+
+#[no_mangle]
+pub extern "C" fn pd3120_tick(m: &mut Module)
+    ensures { λ _. ⌜ now (m .exit) ≡ ticked (now (m .entry)) ⌝ }
+{
+    *m = pd3120::tick(*m);
+}
+
+// Off for a number outside 1 to 16.
+#[no_mangle]
+pub extern "C" fn pd3120_output(m: &Module, channel: u8) -> bool
+    ensures { λ r. ⌜ r ≡ outputAt (now (m .entry)) channel ⌝ }
+{
+    pd3120::output(*m, channel)
+}
