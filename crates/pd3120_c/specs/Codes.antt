@@ -2,21 +2,23 @@
 use mathlib.Core.Path.{_≡_}
 use mathlib.Core.Bool.{Bool, false, cond}
 use mathlib.Core.List.{List}
-use Prim.Native.Nat.{ℕ, _+_, _*_}
+use Prim.Native.Nat.{ℕ, _+_, _*_, _/_, _%_, _<_}
 use Rattle.model.specs.declared.Module.{Module}
 use Rattle.model.specs.declared.Reply.{Reply}
-use Rattle.model.specs.Image.{imageSize}
 use Rattle.model.specs.Questions.{numberOf, lengthOf, powerUpReply, storeReply}
 use Rattle.model.specs.Calls.{Answer, plainAnswer, Stepped, powerUp, stored}
 use Rattle.pd3120_c.specs.declared.Done.{Done}
 
--- no answer is longer than an image
-abbrev pub longest : ℕ
-longest = imageSize
-
 -- bits 0 to 7 the number, bits 8 to 23 the length, bit 24 DataError, bit 25 GeneralError
 abbrev pub packed : ℕ → ℕ → Bool → Bool → ℕ
 packed number size data-error general-error = number + size * 256 + cond data-error 16777216 0 + cond general-error 33554432 0
+
+-- the four are found again, so a code stands for one answer
+pub record Unpacks : Type 0 where
+  pub number : (n s : ℕ) (d g : Bool) → n < 256 → packed n s d g % 256 ≡ n
+  pub size : (n s : ℕ) (d g : Bool) → n < 256 → s < 65536 → packed n s d g / 256 % 65536 ≡ s
+  pub data-error : (n s : ℕ) (d g : Bool) → n < 256 → s < 65536 → packed n s d g / 16777216 % 2 ≡ cond d 1 0
+  pub general-error : (n s : ℕ) (d g : Bool) → n < 256 → s < 65536 → packed n s d g / 33554432 ≡ cond g 1 0
 
 abbrev pub replyCode : Reply → Bool → Bool → ℕ
 replyCode r data-error general-error = packed (numberOf r) (lengthOf r) data-error general-error

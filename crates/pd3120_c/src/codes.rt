@@ -3,8 +3,9 @@
 ghost use mathlib.Core.Path.{_≡_};
 ghost use mathlib.Core.Bool.{cond};
 ghost use Prim.Native.Nat.{_≤_};
+ghost use Rattle.model.specs.Image.{imageSize};
 ghost use Rattle.model.specs.Questions.{refusalNumber, numberOf, lengthOf};
-ghost use Rattle.pd3120_c.specs.Codes.{longest, replyCode};
+ghost use Rattle.pd3120_c.specs.Codes.{replyCode};
 use model::Refusal;
 use model::Reply;
 
@@ -40,7 +41,7 @@ fn number(reply: Reply) -> u32
 }
 
 fn length(reply: Reply) -> u32
-    requires { ⌜ lengthOf reply ≤ longest ⌝ }
+    requires { ⌜ lengthOf reply ≤ imageSize ⌝ }
     ensures { λ r. ⌜ r ≡ lengthOf reply ⌝ }
 {
     match reply {
@@ -56,7 +57,7 @@ fn weigh(set: bool, weight: u32) -> u32
 }
 
 pub fn pack(reply: Reply, data_error: bool, general_error: bool) -> u32
-    requires { ⌜ lengthOf reply ≤ longest ⌝ }
+    requires { ⌜ lengthOf reply ≤ imageSize ⌝ }
     ensures { λ r. ⌜ r ≡ replyCode reply «data_error» «general_error» ⌝ }
 {
     let number = number(reply);

@@ -27,21 +27,21 @@ sample-cases : (r : Reply) (k : ℕ) (ch : Channel) (m : Module)
 sample-cases (Done n) k ch m = refl
 sample-cases (Refused w) k ch m = refl
 
-sample-done : (r : Reply) (k : ℕ) (ch : Channel) (m : Module) (s : Sampled) (code : ℕ) → s ≡ sampledBy (sampledAs r k ch m) → code ≡ replyCode (s .reply) false false
-    → record { after = s .after; code = code } ≡ doneBy (sampledAs r k ch m)
+sample-done : (r : Reply) (k : ℕ) (ch : Channel) (m : Module) (s : Sampled) (code : ℕ) → s ≡ sampledBy (sampledAs r k ch m)
+    → code ≡ replyCode (s .reply) false false → record { after = s .after; code = code } ≡ doneBy (sampledAs r k ch m)
 sample-done r k ch m s code e f = rw (f, e) (sample-cases r k ch m)
 
-pub level-done : (m : Module) (k : ℕ) (b : Bool) (s : Sampled) (code : ℕ) → s ≡ sampledBy (step m (level k b)) → code ≡ replyCode (s .reply) false false
-    → record { after = s .after; code = code } ≡ doneBy (step m (level k b))
+pub level-done : (m : Module) (k : ℕ) (b : Bool) (s : Sampled) (code : ℕ) → s ≡ sampledBy (step m (level k b))
+    → code ≡ replyCode (s .reply) false false → record { after = s .after; code = code } ≡ doneBy (step m (level k b))
 unfolding step
 level-done m k b = sample-done (levelReply k) k (takeLevel b (channelAt m k)) m
 
-pub current-done : (m : Module) (k : ℕ) (x : Float) (s : Sampled) (code : ℕ) → s ≡ sampledBy (step m (current k x)) → code ≡ replyCode (s .reply) false false
-    → record { after = s .after; code = code } ≡ doneBy (step m (current k x))
+pub current-done : (m : Module) (k : ℕ) (x : Float) (s : Sampled) (code : ℕ) → s ≡ sampledBy (step m (current k x))
+    → code ≡ replyCode (s .reply) false false → record { after = s .after; code = code } ≡ doneBy (step m (current k x))
 unfolding step
 current-done m k x = sample-done (currentReply k x) k (takeCurrent (m .shared) x (channelAt m k)) m
 
 -- power-up answers its number alone
-pub start-done : (img : List ℕ) (after : Module) (reply : Reply) (code : ℕ) → after ≡ powerUp img → reply ≡ powerUpReply img → code ≡ replyCode reply false false
-    → record { after = after; code = code } ≡ doneBy (started img)
+pub start-done : (img : List ℕ) (after : Module) (reply : Reply) (code : ℕ) → after ≡ powerUp img → reply ≡ powerUpReply img
+    → code ≡ replyCode reply false false → record { after = after; code = code } ≡ doneBy (started img)
 start-done img after reply code e f g = rw (g, e, f)

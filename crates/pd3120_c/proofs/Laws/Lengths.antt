@@ -12,14 +12,14 @@ use Rattle.model.specs.declared.Reply.the-variants.{Done, Refused}
 use Rattle.model.specs.State.{channelAt}
 use Rattle.model.specs.Channel.{takeLevel, takeCurrent}
 use Rattle.model.specs.Registers.{Place, place, size}
-use Rattle.model.specs.Questions.{Question, asked, lengthOf, readQuestions, writeQuestions, levelQuestions, currentQuestions, powerUpQuestions, storeQuestions, readReply, writeReply, levelReply, currentReply, powerUpReply, storeReply}
+use Rattle.model.specs.Questions.{Question, asked, lengthOf, readReply, writeReply, levelReply, currentReply, powerUpReply, storeReply}
+use Rattle.model.specs.Questions.{readQuestions, writeQuestions, levelQuestions, currentQuestions, powerUpQuestions, storeQuestions}
 use Rattle.model.specs.Image.{imageSize}
 use Rattle.model.specs.Calls.{Request, read, write, level, current, tick, cleared, readAs, writtenAs, sampledAs, step}
 use Rattle.reads.proofs.Laws.Held.{fits}
 use Rattle.pd3120.specs.declared.Answered.{Answered}
 use Rattle.pd3120.specs.declared.Sampled.{Sampled}
 use Rattle.pd3120.specs.Answers.{answeredBy, sampledBy}
-use Rattle.pd3120_c.specs.Codes.{longest}
 
 answered : (b : Bool) (r : Reply) (w : Refusal) (n : ℕ) → lengthOf r ≤ n → lengthOf (cond b r (Refused w)) ≤ n
 answered true r w n h = h
@@ -30,25 +30,25 @@ asked-length [] n = omega arith
 asked-length (q ∷ qs) n = answered (q .yes) (asked qs (Done n)) (q .refusal) n (asked-length qs n)
 
 -- ---- a call's reply is that of its questions
-read-length : (r : Reply) (p : Place) (lent : List ℕ) (m : Module) → lengthOf r ≤ longest → lengthOf (readAs r p lent m .answer .reply) ≤ longest
+read-length : (r : Reply) (p : Place) (lent : List ℕ) (m : Module) → lengthOf r ≤ imageSize → lengthOf (readAs r p lent m .answer .reply) ≤ imageSize
 read-length (Done n) p lent m h = h
 read-length (Refused w) p lent m h = h
 
-write-length : (r : Reply) (p : Place) (bs : List ℕ) (m : Module) → lengthOf r ≤ longest → lengthOf (writtenAs r p bs m .answer .reply) ≤ longest
+write-length : (r : Reply) (p : Place) (bs : List ℕ) (m : Module) → lengthOf r ≤ imageSize → lengthOf (writtenAs r p bs m .answer .reply) ≤ imageSize
 write-length (Done n) p bs m h = h
 write-length (Refused w) p bs m h = h
 
-sample-length : (r : Reply) (k : ℕ) (ch : Channel) (m : Module) → lengthOf r ≤ longest → lengthOf (sampledAs r k ch m .answer .reply) ≤ longest
+sample-length : (r : Reply) (k : ℕ) (ch : Channel) (m : Module) → lengthOf r ≤ imageSize → lengthOf (sampledAs r k ch m .answer .reply) ≤ imageSize
 sample-length (Done n) k ch m h = h
 sample-length (Refused w) k ch m h = h
 
-within : (n a : ℕ) → a ≤ n → n ≤ longest → a ≤ longest
+within : (n a : ℕ) → a ≤ n → n ≤ imageSize → a ≤ imageSize
 within n a h g = omega (arith, h, g)
 
-register-length : (p : Place) → size p ≤ longest
+register-length : (p : Place) → size p ≤ imageSize
 register-length p = let h = fits p in omega (arith, h)
 
-pub step-length : (m : Module) (x : Request) → lengthOf (step m x .answer .reply) ≤ longest
+pub step-length : (m : Module) (x : Request) → lengthOf (step m x .answer .reply) ≤ imageSize
 unfolding step readReply writeReply levelReply currentReply
 step-length m (read n lent) =
     let p = place n in
@@ -56,22 +56,23 @@ step-length m (read n lent) =
 step-length m (write n bs) =
     let p = place n in
     write-length (writeReply (m .shared) p bs) p bs (cleared m) (within 0 _ (asked-length (writeQuestions (m .shared) p bs) 0) (omega arith))
-step-length m (level k b) = sample-length (levelReply k) k (takeLevel b (channelAt m k)) m (within 0 _ (asked-length (levelQuestions k) 0) (omega arith))
+step-length m (level k b) =
+    sample-length (levelReply k) k (takeLevel b (channelAt m k)) m (within 0 _ (asked-length (levelQuestions k) 0) (omega arith))
 step-length m (current k x) =
     sample-length (currentReply k x) k (takeCurrent (m .shared) x (channelAt m k)) m (within 0 _ (asked-length (currentQuestions k x) 0) (omega arith))
 step-length m tick = omega arith
 
 -- ---- of what the library's calls give
-pub wire-length : (m : Module) (x : Request) (a : Answered) → a ≡ answeredBy (step m x) → lengthOf (a .reply) ≤ longest
+pub wire-length : (m : Module) (x : Request) (a : Answered) → a ≡ answeredBy (step m x) → lengthOf (a .reply) ≤ imageSize
 wire-length m x a e = rw e (step-length m x)
 
-pub sampled-length : (m : Module) (x : Request) (s : Sampled) → s ≡ sampledBy (step m x) → lengthOf (s .reply) ≤ longest
+pub sampled-length : (m : Module) (x : Request) (s : Sampled) → s ≡ sampledBy (step m x) → lengthOf (s .reply) ≤ imageSize
 sampled-length m x s e = rw e (step-length m x)
 
-pub power-up-length : (img : List ℕ) (r : Reply) → r ≡ powerUpReply img → lengthOf r ≤ longest
+pub power-up-length : (img : List ℕ) (r : Reply) → r ≡ powerUpReply img → lengthOf r ≤ imageSize
 unfolding powerUpReply
 power-up-length img r e = rw e (within 0 _ (asked-length (powerUpQuestions img) 0) (omega arith))
 
-pub store-length : (lent : List ℕ) (r : Reply) → r ≡ storeReply lent → lengthOf r ≤ longest
+pub store-length : (lent : List ℕ) (r : Reply) → r ≡ storeReply lent → lengthOf r ≤ imageSize
 unfolding storeReply
 store-length lent r e = rw e (asked-length (storeQuestions lent) imageSize)

@@ -36,31 +36,15 @@ use denote.Triple.Clauses.{Clauses, Ended, closing, ensured, lasts}
 use denote.Triple.Walked.{says, Stays, stay-none, stay-none-ref, walkOf, Walks, ends-at, walked, walk-meets}
 use denote.Triple.Walked.{AllGo, goes-none, goes-none-ref}
 use denote.Exit.{yes}
-use Rattle.pd3120_c.proofs.Walks.Plain.{Plain, row, vals, makes, copy as twice, value, related, lands}
+use Rattle.pd3120_c.proofs.Walks.Plain.{Plain, row, vals, makes, copy as twice, value, related, lands, keeping, stating}
 
 module _ (S I J : Plain) where
   -- the exported function, and its callee
   abbrev pub outer : Ended
-  outer = record {
-    signature = record {
-      lifetimes = 1;
-      outlives = [];
-      params = shrRefTo (0 ∷ []) tt (plain (λ _. row S)) ∷ plain (λ _. row I) ∷ [];
-      result = plain (λ _. row J);
-    };
-    kept = (yes, (yes, tt));
-  }
+  outer = keeping 1 (shrRefTo (0 ∷ []) tt (plain (λ _. row S)) ∷ plain (λ _. row I) ∷ []) (plain (λ _. row J))
 
   abbrev pub inner : Ended
-  inner = record {
-    signature = record {
-      lifetimes = 0;
-      outlives = [];
-      params = plain (λ _. row S) ∷ plain (λ _. row I) ∷ [];
-      result = plain (λ _. row J);
-    };
-    kept = (yes, (yes, tt));
-  }
+  inner = keeping 0 (plain (λ _. row S) ∷ plain (λ _. row I) ∷ []) (plain (λ _. row J))
 
   abbrev pub fn-of : Name → Fn
   fn-of key = record {
@@ -68,7 +52,8 @@ module _ (S I J : Plain) where
     outlives = [];
     params = 2;
     locals =
-        local (J .mir) valueLocal ∷ local (tyRef (named 0) imm (pointee (S .written))) valueLocal ∷ local (I .mir) valueLocal ∷ local (S .mir) valueLocal ∷ [];
+        local (J .mir) valueLocal ∷ local (tyRef (named 0) imm (pointee (S .written))) valueLocal ∷ local (I .mir) valueLocal
+        ∷ local (S .mir) valueLocal ∷ [];
     body =
         seq (assign (place 3 []) (rvOpd (copy (place 1 (deref (S .mir) ∷ [])))))
         (seq (call key (copy (place 3 []) ∷ copy (place 2 []) ∷ []) (place 0 [])) return);
@@ -80,14 +65,14 @@ module _ (S I J : Plain) where
   module _ {M : Type 1} (𝓤 : URA M) (H : Heap 𝓤) (A : Atoms 𝓤) (P : S .D → I .D → J .D → Type 0) where
     -- what the callee ensures, as the walk cites it
     abbrev called : Clauses 𝓤 inner
-    called κs a = record { ghost = Unit {0}; requires = λ _. emp 𝓤; ensures = λ _ r e. fact 𝓤 (P (a .0) (a .1 .0) r) }
+    called = stating 𝓤 inner (λ κs a r e. P (a .0) (a .1 .0) r)
 
     abbrev pub Called : Contract 𝓤
     Called = tripleOf 𝓤 H A (inner .signature) (closing 𝓤 H A inner called)
 
     -- and what the exported function does
     abbrev pub exported : Clauses 𝓤 outer
-    exported κs a = record { ghost = Unit {0}; requires = λ _. emp 𝓤; ensures = λ _ r e. fact 𝓤 (P (a .0 .now) (a .1 .0) r) }
+    exported = stating 𝓤 outer (λ κs a r e. P (a .0 .now) (a .1 .0) r)
 
     module _ (W : Given 𝓤 H A) (key : Name) where
       module _ (κ : Lft) (q : Share) (b o : ℕ) (γ : GName) (h : S .D) (i : I .D) (i-is : Is (row I) i (vals I i)) where
@@ -119,7 +104,8 @@ module _ (S I J : Plain) where
 
         goes-call : ent 𝓤 (sem 𝓤 H A (S .own h (vals S h))) (Called .pre to-call)
         goes-call =
-            qed W (‵ (S .own h (vals S h)) ∷ []) ∵ nothing ! $ owned ! (row I) (Is (row I)) (makes I 𝓤 H A) i _ i-is $ fjoin ! $ move ! (1 ∷ 0 ∷ []) $ fjoin ! $
+            qed W (‵ (S .own h (vals S h)) ∷ []) ∵ nothing ! $ owned ! (row I) (Is (row I)) (makes I 𝓤 H A) i _ i-is $ fjoin ! $ move ! (1 ∷ 0 ∷ []) $
+            fjoin ! $
             nothing ! $ join ! $ frame ! $ done !
 
         module _ (C : Calls 𝓤 H) (Λ : Loops 𝓤 H) (fm : FmC 𝓤 H (W .laws) C) (known : Triple 𝓤 (C key) Called) where
@@ -134,21 +120,25 @@ module _ (S I J : Plain) where
               spelt ! (row S) (Is (row S)) (shows 𝓤 H A (row S)) (vals S) (S .tells) s′ h vs b o $
               -- [a share of m's cell; what it owns; the open borrow; the fractured borrow; _3; …; _2; …; _1; …; room for _0; …; res]
               move ! (1 ∷ []) $ peeks ! (row S) (Is (row S)) (shows 𝓤 H A (row S)) h (vals S h) (λ is.
-              assigns ! (of-opd ! (load ! (from ! (hop ! (look ! 8 refl) (stop !))) (look-raw ! 1 refl))) (from ! (stop !)) (init ! 4 refl (S .typed 𝓤 H A W h is)) $
+              assigns ! (of-opd ! (load ! (from ! (hop ! (look ! 8 refl) (stop !))) (look-raw ! 1 refl))) (from ! (stop !))
+              (init ! 4 refl (S .typed 𝓤 H A W h is)) $
               move ! (1 ∷ 0 ∷ []) $ shuts ! tt (row S) s′ h (vals S h) b o $
               -- [the token; the fractured borrow; _3; …; _2; …; _1; …; room for _0; …; res]
               owned ! (row S) (Is (row S)) (makes S 𝓤 H A) h _ is $ use1 W (raw (Called .pre to-call)) goes-call $
-              calls-at ! fm Called known to-call (and-then ! (load ! (from ! (stop !)) (look ! 3 refl)) (and-then ! (load ! (from ! (stop !)) (look ! 5 refl)) (no-more !))) (λ w.
+              calls-at ! fm Called known to-call (and-then ! (load ! (from ! (stop !)) (look ! 3 refl))
+              (and-then ! (load ! (from ! (stop !)) (look ! 5 refl)) (no-more !))) (λ w.
               use1 W (later (some (λ (r : J .D). (‵ ftrue ⊛ ‵ (J .own r (w ∷ []))) ⊛ raw (ensured 𝓤 H A inner called tt (h, (i, tt)) tt r)))) (id⊢ 𝓤 _) $
               await ! tt $ pick ! (λ r. split ! $ move ! (1 ∷ []) $ use1 W (raw (fact 𝓤 (P h i r))) (said r) $ heard ! (P h i r) (λ e.
               split ! $ move ! (1 ∷ []) $ peeks ! (row J) (Is (row J)) (shows 𝓤 H A (row J)) r (w ∷ []) (λ isr.
               -- [what the answer owns; true; the token; the fractured borrow; _3; …; room for _0; …; res]
-              land ! (from ! (stop !)) (init ! 10 refl (lands J r w isr 𝓤 H A W)) $ rewrite ! 10 (λ (u : Val). ‵ (fat fullShare (J .mir) l₀ 0 u)) (value J r w isr) refl $
+              land ! (from ! (stop !)) (init ! 10 refl (lands J r w isr 𝓤 H A W)) $
+              rewrite ! 10 (λ (u : Val). ‵ (fat fullShare (J .mir) l₀ 0 u)) (value J r w isr) refl $
               returns ! (look ! 10 refl) $ forget ! 4 refl $ forget ! 6 refl $ forget ! 8 refl $ forget ! 10 refl $
               move ! (10 ∷ 11 ∷ []) $ free1 ! $ move ! (8 ∷ 9 ∷ []) $ free1 ! $ move ! (6 ∷ 7 ∷ []) $ free1 ! $ move ! (4 ∷ 5 ∷ []) $ free1 ! $ free0 ! $
               keep ! (2 ∷ 3 ∷ 4 ∷ []) $ by ! (exits r e (related J r w isr))))))))))))
 
-      all-walk : (C : Calls 𝓤 H) (Λ : Loops 𝓤 H) → FmC 𝓤 H (W .laws) C → Triple 𝓤 (C key) Called → Walks 𝓤 H A outer stayed (WpFn 𝓤 H C Λ (fn-of key)) exported
+      all-walk : (C : Calls 𝓤 H) (Λ : Loops 𝓤 H) → FmC 𝓤 H (W .laws) C → Triple 𝓤 (C key) Called
+          → Walks 𝓤 H A outer stayed (WpFn 𝓤 H C Λ (fn-of key)) exported
       all-walk C Λ fm known = walked 𝓤 H A outer stayed exported (WpFn 𝓤 H C Λ (fn-of key))
           (λ κs. (ptr-vals, (vals I, tt))) (λ κs. (shr-tells (named 0) (κs .0) (row S), (I .tells, tt)))
           (λ κs qs bounds a _ are. via 𝓤 _ (fst∗ 𝓤 _ (emp 𝓤))

@@ -11,16 +11,23 @@ use lib.Dec.{T}
 use mir.Syntax.{Sym, Ty, Written, w32, tyInt, tyStruct, tcons, tnil}
 use mir.Val.{Val, vint, vstruct, vcons, vnil, WT, hasTy}
 use base.Stored.{Coded}
+use base.Logic.{emp}
 use base.Fml.{Fml}
 use prog.Wp.{Heap}
 use ghost.Atoms.{Atoms}
+use contract.Monad.{fact}
+use contract.Lifetimes.{Lfts}
 use types.Kit.{Given}
 use denote.RattleType.{RattleType}
-use denote.Exit.{unchanged}
+use denote.Exit.{unchanged, yes}
 use denote.Shadow.{shadow, Pure, makes-shadow}
 use denote.Laws.{Is, Makes, Copy}
 use denote.Plain.{plain-copy}
+use denote.Signature.{Slot}
 use denote.Steps.{only}
+use denote.Triple.Entry.{Args, Res}
+use denote.Triple.End.{Kepts}
+use denote.Triple.Clauses.{Ended, AtExit, Clauses}
 
 pub record Plain : Type 2 where
   pub D : Type 0
@@ -78,3 +85,15 @@ module _ {S : Plain} (R : Packed S) where
 
   abbrev pub packed : RattleType
   packed = record { Denot = R .D; mir = packed-mir ∷ []; written = R .written; reaches = R .reaches; own = R .own; exit = λ k. unchanged; coded = R .coded }
+
+-- ---- contracts as the walks have them: a function of n lifetimes that keeps every parameter, and one fact that it ensures, with nothing asked
+abbrev all-kept : {n : ℕ} (ss : List (Slot n)) → Kepts ss
+all-kept [] = tt
+all-kept (s ∷ ss) = (yes, all-kept ss)
+
+abbrev pub keeping : (n : ℕ) → List (Slot n) → Slot n → Ended
+keeping n ss r = record { signature = record { lifetimes = n; outlives = []; params = ss; result = r }; kept = all-kept ss }
+
+abbrev pub stating : {M : Type 1} (𝓤 : URA M) (T : Ended)
+    → ((κs : Lfts (T .signature .lifetimes)) → Args (T .signature) κs → Res (T .signature) κs → AtExit T κs → Type 0) → Clauses 𝓤 T
+stating 𝓤 T φ κs a = record { ghost = Unit {0}; requires = λ _. emp 𝓤; ensures = λ _ r e. fact 𝓤 (φ κs a r e) }

@@ -1,6 +1,7 @@
 -- The walk of an exported call that makes a module of bytes. A function of the shape
 --     pub extern "C" fn f(m: &mut S, bytes: &[u8]) -> u32 { let done = call(bytes); *m = done.after; done.code }
--- leaves Q, where its callee, of which only its contract is known, gives a `done` of which P holds, and Q follows from P. `fn-of` is its MIR but for the callee's key.
+-- leaves Q, where its callee, of which only its contract is known, gives a `done` of which P holds, and Q follows from P.
+-- `fn-of` is its MIR but for the callee's key.
 -- The callee is called first; then the borrow of m is opened, the callee's value stored there, and the borrow closed at it.
 -- Assumes nothing.
 use mathlib.Core.Path.{refl, ap}
@@ -42,31 +43,15 @@ use denote.Triple.Clauses.{Clauses, Ended, closing, ensured, lasts}
 use denote.Triple.Walked.{says, Stays, stay-ref, stay-none-slice, walkOf, Walks, ends-at, walked, walk-meets}
 use denote.Triple.Walked.{AllGo, goes-ref, goes-none-slice}
 use denote.Exit.{yes}
-use Rattle.pd3120_c.proofs.Walks.Plain.{Plain, row, vals, makes, copy as twice, Packed, packed, packed-mir}
+use Rattle.pd3120_c.proofs.Walks.Plain.{Plain, row, vals, makes, copy as twice, Packed, packed, packed-mir, keeping, stating}
 
 module _ (S : Plain) (R : Packed S) where
   -- the exported function, and its callee
   abbrev pub outer : Ended
-  outer = record {
-    signature = record {
-      lifetimes = 2;
-      outlives = [];
-      params = mutRefTo (0 ∷ []) tt (plain (λ _. row S)) ∷ shrSliceOf (1 ∷ []) tt (plain (λ _. u8)) ∷ [];
-      result = plain (λ _. u32);
-    };
-    kept = (yes, (yes, tt));
-  }
+  outer = keeping 2 (mutRefTo (0 ∷ []) tt (plain (λ _. row S)) ∷ shrSliceOf (1 ∷ []) tt (plain (λ _. u8)) ∷ []) (plain (λ _. u32))
 
   abbrev pub inner : Ended
-  inner = record {
-    signature = record {
-      lifetimes = 1;
-      outlives = [];
-      params = shrSliceOf (0 ∷ []) tt (plain (λ _. u8)) ∷ [];
-      result = plain (λ _. packed R);
-    };
-    kept = (yes, tt);
-  }
+  inner = keeping 1 (shrSliceOf (0 ∷ []) tt (plain (λ _. u8)) ∷ []) (plain (λ _. packed R))
 
   abbrev pub fn-of : Name → Fn
   fn-of key = record {
@@ -90,14 +75,14 @@ module _ (S : Plain) (R : Packed S) where
     -- what the callee ensures, as the walk cites it
     module _ (P : List ℕ → R .D → Type 0) where
       abbrev called : Clauses 𝓤 inner
-      called κs a = record { ghost = Unit {0}; requires = λ _. emp 𝓤; ensures = λ _ r e. fact 𝓤 (P (a .0 .now) r) }
+      called = stating 𝓤 inner (λ κs a r e. P (a .0 .now) r)
 
       abbrev pub Called : Contract 𝓤
       Called = tripleOf 𝓤 H A (inner .signature) (closing 𝓤 H A inner called)
 
     -- and what the exported function does
     abbrev pub exported : (List ℕ → S .D → ℕ → Type 0) → Clauses 𝓤 outer
-    exported Q κs a = record { ghost = Unit {0}; requires = λ _. emp 𝓤; ensures = λ _ r e. fact 𝓤 (Q (a .1 .0 .now) (e .0 .now) r) }
+    exported Q = stating 𝓤 outer (λ κs a r e. Q (a .1 .0 .now) (e .0 .now) r)
 
     module _ (W : Given 𝓤 H A) (key : Name) (P : List ℕ → R .D → Type 0) (Q : List ℕ → S .D → ℕ → Type 0)
         (follows : (ys : List ℕ) (r : R .D) → P ys r → Q ys (R .after r) (R .code r)) where
@@ -128,7 +113,8 @@ module _ (S : Plain) (R : Packed S) where
             → ent 𝓤 (sep 𝓤 (A .obs γ (S .coded .code (R .after r))) (sep 𝓤 (A .bor κ (Body (mem (row S)) b o γ))
             (sep 𝓤 (A .lft κ q) (sep 𝓤 (sep 𝓤 (A .lft κ′ q′) (sem 𝓤 H A ftrue)) (sem 𝓤 H A Own))))) (Post (vint w32 (R .code r)))
         exits r e fits =
-            qed W (‵ (fobs γ (S .coded .code (R .after r))) ∷ ‵ (fbor κ (Body (mem (row S)) b o γ)) ∷ ‵ (flft κ q) ∷ (‵ (flft κ′ q′) ⊛ ‵ ftrue) ∷ ‵ Own ∷ []) ∵
+            qed W (‵ (fobs γ (S .coded .code (R .after r))) ∷ ‵ (fbor κ (Body (mem (row S)) b o γ)) ∷ ‵ (flft κ q)
+            ∷ (‵ (flft κ′ q′) ⊛ ‵ ftrue) ∷ ‵ Own ∷ []) ∵
             suffices ! _ (ends-at 𝓤 H A outer stayed (exported Q) W (((κ, (κ′, tt)), (q, (q′, tt)), tt, x, at), tt)
             (vint w32 (R .code r)) (R .code r) (R .after r, (tt, tt)) (tt, (tt, tt))) $
             says ! (follows (y .now) r e) $ move ! (2 ∷ 3 ∷ []) $ join ! $ frame ! $
@@ -156,13 +142,15 @@ module _ (S : Plain) (R : Packed S) where
               -- [room for _3; …; _2; …; _1; …; room for _0; …; obs; the borrow; the token; what bytes owns; its token; what bytes owns]
               move ! (12 ∷ 11 ∷ []) $ use2 W (raw (Called P .pre to-call)) goes-call $
               calls-at ! fm (Called P) known to-call (and-then ! (load ! (from ! (stop !)) (look ! 3 refl)) (no-more !)) (λ w.
-              use1 W (later (some (λ (r : R .D). ((‵ (flft κ′ q′) ⊛ ‵ ftrue) ⊛ ‵ (R .own r (w ∷ []))) ⊛ raw (ensured 𝓤 H A inner (called P) (κ′, tt) (y, tt) tt r)))) (id⊢ 𝓤 _) $
+              use1 W (later (some (λ (r : R .D). ((‵ (flft κ′ q′) ⊛ ‵ ftrue) ⊛ ‵ (R .own r (w ∷ [])))
+              ⊛ raw (ensured 𝓤 H A inner (called P) (κ′, tt) (y, tt) tt r)))) (id⊢ 𝓤 _) $
               await ! tt $ pick ! (λ r. split ! $ move ! (1 ∷ []) $ use1 W (raw (fact 𝓤 (Says r))) (said r) $ heard ! (Says r) (λ e.
               split ! $ move ! (1 ∷ []) $ peeks ! (packed R) (Is (packed R)) (shows 𝓤 H A (packed R)) r (w ∷ []) (λ isr.
               -- [what the answer owns; bytes' token; room for _3; …; _2; …; _1; …; room for _0; …; obs; the borrow; the token; what bytes owns]
               land ! (from ! (stop !)) (init ! 2 refl (R .typed 𝓤 H A W r w isr)) $
               rewrite ! 2 (λ (u : Val). ‵ (fat fullShare (packed-mir R) l₃ 0 u)) (ap only (R .tells r (w ∷ []) isr)) refl $
-              move ! (10 ∷ 11 ∷ 12 ∷ []) $ opens ! tt (row S) {h = h} b o (λ vs. spelt ! (row S) (Is (row S)) (shows 𝓤 H A (row S)) (vals S) (S .tells) fullShare h vs b o $
+              move ! (10 ∷ 11 ∷ 12 ∷ []) $ opens ! tt (row S) {h = h} b o (λ vs.
+              spelt ! (row S) (Is (row S)) (shows 𝓤 H A (row S)) (vals S) (S .tells) fullShare h vs b o $
               -- [m's cell; what it owns; the open borrow; obs; auth; what the answer owns; bytes' token; _3; …; _2; …; _1; …; room for _0; …; what bytes owns]
               assigns ! (of-opd ! (load ! (from ! (fld ! refl (stop !))) (look-in ! 7 (sub ! 0 refl (whole !))))) (from ! (hop ! (look ! 11 refl) (stop !)))
               (store-raw ! 0 refl (S .typed 𝓤 H A W (R .after r) (R .fields r (w ∷ []) isr .0))) $
@@ -175,7 +163,8 @@ module _ (S : Plain) (R : Packed S) where
               move ! (11 ∷ 12 ∷ []) $ free1 ! $ move ! (9 ∷ 10 ∷ []) $ free1 ! $ move ! (7 ∷ 8 ∷ []) $ free1 ! $ move ! (5 ∷ 6 ∷ []) $ free1 ! $ free0 ! $
               keep ! (0 ∷ 1 ∷ 2 ∷ 4 ∷ 5 ∷ []) $ by ! (exits r e (R .fields r (w ∷ []) isr .1)))))))))))
 
-      all-walk : (C : Calls 𝓤 H) (Λ : Loops 𝓤 H) → FmC 𝓤 H (W .laws) C → Triple 𝓤 (C key) (Called P) → Walks 𝓤 H A outer stayed (WpFn 𝓤 H C Λ (fn-of key)) (exported Q)
+      all-walk : (C : Calls 𝓤 H) (Λ : Loops 𝓤 H) → FmC 𝓤 H (W .laws) C → Triple 𝓤 (C key) (Called P)
+          → Walks 𝓤 H A outer stayed (WpFn 𝓤 H C Λ (fn-of key)) (exported Q)
       all-walk C Λ fm known = walked 𝓤 H A outer stayed (exported Q) (WpFn 𝓤 H C Λ (fn-of key))
           (λ κs. (ptr-vals, (slice-vals, tt))) (λ κs. (mut-tells (named 0) (κs .0) (row S), (shr-slice-tells (named 1) (κs .1 .0) u8, tt)))
           (λ κs qs bounds a _ are. via 𝓤 _ (fst∗ 𝓤 _ (emp 𝓤))

@@ -1,7 +1,8 @@
 -- The walk of an exported call that takes a value and a lent buffer. A function of the shape
 --     pub extern "C" fn f(m: &mut S, i: I, buf: &mut [u8]) -> u32 { let done = call(*m, i, buf); *m = done.after; done.code }
--- leaves Q, where its callee, of which only its contract is known, gives a `done` and a buffer of which P holds, and Q follows from P. `fn-of` is its MIR but for
--- the callee's key. It goes as the walk of `Write.antt`, but that the buffer is given up to the callee, whose contract says its last bytes.
+-- leaves Q, where its callee, of which only its contract is known, gives a `done` and a buffer of which P holds, and Q follows from P.
+-- `fn-of` is its MIR but for the callee's key. It goes as the walk of `Write.antt`,
+-- but that the buffer is given up to the callee, whose contract says its last bytes.
 -- Assumes nothing.
 use mathlib.Core.Path.{_≡_, refl, ap}
 use Prim.Native.Nat.{ℕ, _<_, _^_}
@@ -42,31 +43,15 @@ use denote.Triple.Clauses.{Clauses, Ended, closing, ensured, lasts}
 use denote.Triple.Walked.{says, Stays, stay-ref, stay-none, gave-slice, walkOf, Walks, ends-at, walked, walk-meets}
 use denote.Triple.Walked.{AllGo, goes-ref, goes-none, goes-gave-slice}
 use denote.Exit.{yes}
-use Rattle.pd3120_c.proofs.Walks.Plain.{Plain, row, vals, makes, Packed, packed, packed-mir}
+use Rattle.pd3120_c.proofs.Walks.Plain.{Plain, row, vals, makes, Packed, packed, packed-mir, keeping, stating}
 
 module _ (S I : Plain) (R : Packed S) where
   -- the exported function, and its callee
   abbrev pub outer : Ended
-  outer = record {
-    signature = record {
-      lifetimes = 2;
-      outlives = [];
-      params = mutRefTo (0 ∷ []) tt (plain (λ _. row S)) ∷ plain (λ _. row I) ∷ mutSliceOf (1 ∷ []) tt (plain (λ _. u8)) ∷ [];
-      result = plain (λ _. u32);
-    };
-    kept = (yes, (yes, (yes, tt)));
-  }
+  outer = keeping 2 (mutRefTo (0 ∷ []) tt (plain (λ _. row S)) ∷ plain (λ _. row I) ∷ mutSliceOf (1 ∷ []) tt (plain (λ _. u8)) ∷ []) (plain (λ _. u32))
 
   abbrev pub inner : Ended
-  inner = record {
-    signature = record {
-      lifetimes = 1;
-      outlives = [];
-      params = plain (λ _. row S) ∷ plain (λ _. row I) ∷ mutSliceOf (0 ∷ []) tt (plain (λ _. u8)) ∷ [];
-      result = plain (λ _. packed R);
-    };
-    kept = (yes, (yes, (yes, tt)));
-  }
+  inner = keeping 1 (plain (λ _. row S) ∷ plain (λ _. row I) ∷ mutSliceOf (0 ∷ []) tt (plain (λ _. u8)) ∷ []) (plain (λ _. packed R))
 
   abbrev pub fn-of : Name → Fn
   fn-of key = record {
@@ -94,18 +79,14 @@ module _ (S I : Plain) (R : Packed S) where
     -- what the callee ensures, as the walk cites it
     module _ (P : S .D → I .D → List ℕ → R .D → List ℕ → Type 0) where
       abbrev called : Clauses 𝓤 inner
-      called κs a = record { ghost = Unit {0}; requires = λ _. emp 𝓤; ensures = λ _ r e. fact 𝓤 (P (a .0) (a .1 .0) (a .1 .1 .0 .now) r (e .1 .1 .0 .now)) }
+      called = stating 𝓤 inner (λ κs a r e. P (a .0) (a .1 .0) (a .1 .1 .0 .now) r (e .1 .1 .0 .now))
 
       abbrev pub Called : Contract 𝓤
       Called = tripleOf 𝓤 H A (inner .signature) (closing 𝓤 H A inner called)
 
     -- and what the exported function does
     abbrev pub exported : (S .D → I .D → List ℕ → S .D → ℕ → List ℕ → Type 0) → Clauses 𝓤 outer
-    exported Q κs a = record {
-      ghost = Unit {0};
-      requires = λ _. emp 𝓤;
-      ensures = λ _ r e. fact 𝓤 (Q (a .0 .now) (a .1 .0) (a .1 .1 .0 .now) (e .0 .now) r (e .1 .1 .0 .now));
-    }
+    exported Q = stating 𝓤 outer (λ κs a r e. Q (a .0 .now) (a .1 .0) (a .1 .1 .0 .now) (e .0 .now) r (e .1 .1 .0 .now))
 
     module _ (W : Given 𝓤 H A) (key : Name) (P : S .D → I .D → List ℕ → R .D → List ℕ → Type 0) (Q : S .D → I .D → List ℕ → S .D → ℕ → List ℕ → Type 0)
         (follows : (h : S .D) (i : I .D) (ys : List ℕ) (r : R .D) (zs : List ℕ) → P h i ys r zs → Q h i ys (R .after r) (R .code r) zs) where
@@ -132,7 +113,8 @@ module _ (S I : Plain) (R : Packed S) where
             → ent 𝓤 (sep 𝓤 (A .obs γ (S .coded .code (R .after r))) (sep 𝓤 (A .bor κ (Body (mem (row S)) b o γ))
             (sep 𝓤 (A .lft κ q) (sep 𝓤 (sep 𝓤 (A .lft κ′ q′) (sem 𝓤 H A ftrue)) (sem 𝓤 H A (finally u8 (y .name) zs)))))) (Post (vint w32 (R .code r)))
         exits r zs e l fits =
-            qed W (‵ (fobs γ (S .coded .code (R .after r))) ∷ ‵ (fbor κ (Body (mem (row S)) b o γ)) ∷ ‵ (flft κ q) ∷ (‵ (flft κ′ q′) ⊛ ‵ ftrue) ∷ ‵ (finally u8 (y .name) zs) ∷ []) ∵
+            qed W (‵ (fobs γ (S .coded .code (R .after r))) ∷ ‵ (fbor κ (Body (mem (row S)) b o γ)) ∷ ‵ (flft κ q) ∷ (‵ (flft κ′ q′) ⊛ ‵ ftrue)
+            ∷ ‵ (finally u8 (y .name) zs) ∷ []) ∵
             suffices ! _ (ends-at 𝓤 H A outer stayed (exported Q) W (((κ, (κ′, tt)), (q, (q′, tt)), tt, x, at), tt)
             (vint w32 (R .code r)) (R .code r) (R .after r, (tt, (zs, tt))) (tt, (tt, (l, tt)))) $
             says ! (follows h i (y .now) r zs e) $ move ! (2 ∷ 3 ∷ []) $ join ! $ frame ! $
@@ -154,25 +136,34 @@ module _ (S I : Plain) (R : Packed S) where
               (WpFn 𝓤 H C Λ (fn-of key) (vptr b o ∷ I .val i ∷ s ∷ []) Post)
           walk room =
               qed W ((‵ (flft κ q) ⊛ ‵ (flft κ′ q′) ⊛ ‵ ftrue) ∷ ‵ (owns (MutRef (named 0) κ (row S) ∷ row I ∷ MutSlice (named 1) κ′ u8 ∷ []) x at) ∷ []) ∵
-              split ! $ move ! (1 ∷ []) $ split ! $ move ! (3 ∷ []) $ fsplit ! $ fsplit3 ! $ drop ! $ move ! (2 ∷ []) $ fsplit ! $ drop ! $ fsplit ! $ move ! (2 ∷ 3 ∷ 6 ∷ 0 ∷ 4 ∷ []) $
+              split ! $ move ! (1 ∷ []) $ split ! $ move ! (3 ∷ []) $ fsplit ! $ fsplit3 ! $ drop ! $ move ! (2 ∷ []) $ fsplit ! $ drop ! $ fsplit ! $
+              move ! (2 ∷ 3 ∷ 6 ∷ 0 ∷ 4 ∷ []) $
               -- [obs; the borrow; the token; what buf owns; its token; true; true]
               enter ! C Λ (fn-of key) (vptr b o ∷ I .val i ∷ s ∷ []) _ $
-              alloc1 ! (λ l₀. alloc1 ! (λ l₁. alloc1 ! (λ l₂. alloc1 ! (λ l₃. alloc1 ! (λ l₄. alloc1 ! (λ l₅. alloc1 ! (λ l₆. alloc1 ! (λ l₇. alloc0 ! $ params1 ! $
-              pass1 ! (init ! 12 refl (tt, tt)) $ pass1 ! (init ! 10 refl (I .typed 𝓤 H A W i i-is)) $ pass1 ! (init ! 8 refl (tt, (tt, (record { fits = room .0 }, tt)))) $ pass0 ! $
-              move ! (16 ∷ 17 ∷ 18 ∷ []) $ opens ! tt (row S) {h = h} b o (λ vs. spelt ! (row S) (Is (row S)) (shows 𝓤 H A (row S)) (vals S) (S .tells) fullShare h vs b o $
+              alloc1 ! (λ l₀. alloc1 ! (λ l₁. alloc1 ! (λ l₂. alloc1 ! (λ l₃. alloc1 ! (λ l₄. alloc1 ! (λ l₅. alloc1 ! (λ l₆. alloc1 ! (λ l₇. alloc0 ! $
+              params1 ! $
+              pass1 ! (init ! 12 refl (tt, tt)) $ pass1 ! (init ! 10 refl (I .typed 𝓤 H A W i i-is)) $
+              pass1 ! (init ! 8 refl (tt, (tt, (record { fits = room .0 }, tt)))) $ pass0 ! $
+              move ! (16 ∷ 17 ∷ 18 ∷ []) $ opens ! tt (row S) {h = h} b o (λ vs.
+              spelt ! (row S) (Is (row S)) (shows 𝓤 H A (row S)) (vals S) (S .tells) fullShare h vs b o $
               -- [m's cell; what it owns; the open borrow; obs; auth; _7; …; _6; …; _5; …; _4; …; _3; …; _2; …; _1; …; room for _0; …; what buf owns; its token]
               move ! (1 ∷ []) $ peeks ! (row S) (Is (row S)) (shows 𝓤 H A (row S)) h (vals S h) (λ is.
-              assigns ! (of-opd ! (load ! (from ! (hop ! (look ! 17 refl) (stop !))) (look-raw ! 1 refl))) (from ! (stop !)) (init ! 9 refl (S .typed 𝓤 H A W h is)) $
+              assigns ! (of-opd ! (load ! (from ! (hop ! (look ! 17 refl) (stop !))) (look-raw ! 1 refl))) (from ! (stop !))
+              (init ! 9 refl (S .typed 𝓤 H A W h is)) $
               assigns ! (addr ! (from ! (fld ! refl (hop ! (look-in ! 13 (sub ! 0 refl (whole !))) (stop !))))) (from ! (stop !)) (init ! 7 refl (tt, tt)) $
-              assigns ! (agg ! (and-then ! (load ! (from ! (stop !)) (look ! 7 refl)) (and-then ! (load ! (from ! (fld ! refl (stop !))) (look-in ! 13 (sub ! 1 refl (whole !)))) (no-more !))))
+              assigns ! (agg ! (and-then ! (load ! (from ! (stop !)) (look ! 7 refl))
+              (and-then ! (load ! (from ! (fld ! refl (stop !))) (look-in ! 13 (sub ! 1 refl (whole !)))) (no-more !))))
               (from ! (stop !)) (init ! 5 refl (tt, (tt, (record { fits = room .0 }, tt)))) $
               move ! (22 ∷ 21 ∷ 0 ∷ []) $ join ! $ use2 W (raw (Called P .pre to-call)) goes-call $
               calls-at ! fm (Called P) known to-call (and-then ! (load ! (from ! (stop !)) (look ! 9 refl))
               (and-then ! (load ! (from ! (stop !)) (look ! 15 refl)) (and-then ! (load ! (from ! (stop !)) (look ! 5 refl)) (no-more !)))) (λ w.
-              use1 W (later (some (λ (r : R .D). ((‵ (flft κ′ q′) ⊛ ‵ ftrue) ⊛ ‵ (R .own r (w ∷ []))) ⊛ raw (ensured 𝓤 H A inner (called P) (κ′, tt) (h, (i, (y, tt))) tt r)))) (id⊢ 𝓤 _) $
+              use1 W (later (some (λ (r : R .D). ((‵ (flft κ′ q′) ⊛ ‵ ftrue) ⊛ ‵ (R .own r (w ∷ [])))
+              ⊛ raw (ensured 𝓤 H A inner (called P) (κ′, tt) (h, (i, (y, tt))) tt r)))) (id⊢ 𝓤 _) $
               await ! tt $ pick ! (λ r. split ! $ move ! (1 ∷ []) $
-              use1 W (some (λ (zs : Unit {0} × (Unit {0} × (List ℕ × Unit {0}))). ‵ (lasts inner (κ′, tt) (h, (i, (y, tt))) zs) ⊛ raw (fact 𝓤 (Says r (zs .1 .1 .0))))) (id⊢ 𝓤 _) $ pick ! (λ zs.
-              split ! $ move ! (1 ∷ []) $ heard ! (Says r (zs .1 .1 .0)) (λ e. fsplit ! $ drop ! $ fsplit ! $ drop ! $ fsplit ! $ fsplit ! $ move ! (1 ∷ []) $ feqL ! (λ l.
+              use1 W (some (λ (zs : Unit {0} × (Unit {0} × (List ℕ × Unit {0}))). ‵ (lasts inner (κ′, tt) (h, (i, (y, tt))) zs)
+              ⊛ raw (fact 𝓤 (Says r (zs .1 .1 .0))))) (id⊢ 𝓤 _) $ pick ! (λ zs.
+              split ! $ move ! (1 ∷ []) $ heard ! (Says r (zs .1 .1 .0)) (λ e. fsplit ! $ drop ! $ fsplit ! $ drop ! $ fsplit ! $ fsplit ! $
+              move ! (1 ∷ []) $ feqL ! (λ l.
               -- [the last bytes; true; the token and the answer; the cell; …]
               move ! (2 ∷ []) $ split ! $ move ! (1 ∷ []) $ peeks ! (packed R) (Is (packed R)) (shows 𝓤 H A (packed R)) r (w ∷ []) (λ isr.
               -- [what the answer owns; buf's token; the last bytes; true; the cell; the open borrow; obs; auth; _7; …]
@@ -185,20 +176,29 @@ module _ (S I : Plain) (R : Packed S) where
               drop ! $ owned ! (row S) (Is (row S)) (makes S 𝓤 H A) (R .after r) _ (R .fields r (w ∷ []) isr .0) $
               move ! (4 ∷ 0 ∷ 5 ∷ 6 ∷ 7 ∷ []) $ closes ! tt (row S) (R .after r) (vals S (R .after r)) b o $
               -- [obs; the borrow; the token; buf's token; the last bytes; true; _7; …]
-              returns ! (look ! 20 refl) $ forget ! 6 refl $ forget ! 8 refl $ forget ! 10 refl $ forget ! 12 refl $ forget ! 14 refl $ forget ! 16 refl $ forget ! 18 refl $ forget ! 20 refl $
+              returns ! (look ! 20 refl) $ forget ! 6 refl $ forget ! 8 refl $ forget ! 10 refl $ forget ! 12 refl $ forget ! 14 refl $ forget ! 16 refl $
+              forget ! 18 refl $ forget ! 20 refl $
               move ! (20 ∷ 21 ∷ []) $ free1 ! $ move ! (18 ∷ 19 ∷ []) $ free1 ! $ move ! (16 ∷ 17 ∷ []) $ free1 ! $ move ! (14 ∷ 15 ∷ []) $ free1 ! $
               move ! (12 ∷ 13 ∷ []) $ free1 ! $ move ! (10 ∷ 11 ∷ []) $ free1 ! $ move ! (8 ∷ 9 ∷ []) $ free1 ! $ move ! (6 ∷ 7 ∷ []) $ free1 ! $ free0 ! $
               keep ! (0 ∷ 1 ∷ 2 ∷ 3 ∷ 4 ∷ []) $ by ! (exits r (zs .1 .1 .0) e l (R .fields r (w ∷ []) isr .1))))))))))))))))))
 
-      all-walk : (C : Calls 𝓤 H) (Λ : Loops 𝓤 H) → FmC 𝓤 H (W .laws) C → Triple 𝓤 (C key) (Called P) → Walks 𝓤 H A outer stayed (WpFn 𝓤 H C Λ (fn-of key)) (exported Q)
+      all-walk : (C : Calls 𝓤 H) (Λ : Loops 𝓤 H) → FmC 𝓤 H (W .laws) C → Triple 𝓤 (C key) (Called P)
+          → Walks 𝓤 H A outer stayed (WpFn 𝓤 H C Λ (fn-of key)) (exported Q)
       all-walk C Λ fm known = walked 𝓤 H A outer stayed (exported Q) (WpFn 𝓤 H C Λ (fn-of key))
           (λ κs. (ptr-vals, (vals I, (slice-vals, tt))))
           (λ κs. (mut-tells (named 0) (κs .0) (row S), (I .tells, (mut-slice-tells (named 1) (κs .1 .0) u8, tt))))
           (λ κs qs bounds a _ are. via 𝓤 _ (fst∗ 𝓤 _ (emp 𝓤))
-          (walk (κs .0) (κs .1 .0) (qs .0) (qs .1 .0) (a .0 .ptr .0) (a .0 .ptr .1) (a .0 .name) (a .0 .now) (a .1 .0) (a .1 .1 .0) (are .1 .0) C Λ fm known (are .1 .1 .0 .0 .1)))
+          (walk (κs .0) (κs .1 .0) (qs .0) (qs .1 .0) (a .0 .ptr .0) (a .0 .ptr .1) (a .0 .name) (a .0 .now) (a .1 .0) (a .1 .1 .0)
+          (are .1 .0) C Λ fm known (are .1 .1 .0 .0 .1)))
 
       goes : AllGo 𝓤 H A W 2 (outer .signature .params) (outer .kept) stayed
-      goes = (goes-ref 𝓤 H A W 2 0 tt (plain (λ _. row S)), (goes-none 𝓤 H A W 2 (λ _. row I) yes (λ κs x f. refl), (goes-gave-slice 𝓤 H A W 2 1 tt (plain (λ _. u8)), tt)))
+      goes = (
+        goes-ref 𝓤 H A W 2 0 tt (plain (λ _. row S)),
+        (
+          goes-none 𝓤 H A W 2 (λ _. row I) yes (λ κs x f. refl),
+          (goes-gave-slice 𝓤 H A W 2 1 tt (plain (λ _. u8)), tt),
+        ),
+      )
 
       pub meets : (𝓣 : Tables 𝓤 H) → Triple 𝓤 (𝓣 .C key) (Called P)
           → Meets 𝓤 H A (outer .signature) (WpFn 𝓤 H (𝓣 .C) (𝓣 .Λ) (fn-of key)) (closing 𝓤 H A outer (exported Q))

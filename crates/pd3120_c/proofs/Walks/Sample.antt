@@ -1,6 +1,7 @@
 -- The walk of an exported call that takes two values. A function of the shape
 --     pub extern "C" fn f(m: &mut S, i: I, j: J) -> u32 { let done = call(*m, i, j); *m = done.after; done.code }
--- leaves Q, where its callee, of which only its contract is known, gives a `done` of which P holds, and Q follows from P. `fn-of` is its MIR but for the callee's key.
+-- leaves Q, where its callee, of which only its contract is known, gives a `done` of which P holds, and Q follows from P.
+-- `fn-of` is its MIR but for the callee's key.
 -- It goes as the walk of `Write.antt`, with a value where that has bytes.
 -- Assumes nothing.
 use mathlib.Core.Path.{refl, ap}
@@ -40,31 +41,15 @@ use denote.Triple.Clauses.{Clauses, Ended, closing, ensured, lasts}
 use denote.Triple.Walked.{says, Stays, stay-ref, stay-none, walkOf, Walks, ends-at, walked, walk-meets}
 use denote.Triple.Walked.{AllGo, goes-ref, goes-none}
 use denote.Exit.{yes}
-use Rattle.pd3120_c.proofs.Walks.Plain.{Plain, row, vals, makes, Packed, packed, packed-mir}
+use Rattle.pd3120_c.proofs.Walks.Plain.{Plain, row, vals, makes, Packed, packed, packed-mir, keeping, stating}
 
 module _ (S I J : Plain) (R : Packed S) where
   -- the exported function, and its callee
   abbrev pub outer : Ended
-  outer = record {
-    signature = record {
-      lifetimes = 1;
-      outlives = [];
-      params = mutRefTo (0 ∷ []) tt (plain (λ _. row S)) ∷ plain (λ _. row I) ∷ plain (λ _. row J) ∷ [];
-      result = plain (λ _. u32);
-    };
-    kept = (yes, (yes, (yes, tt)));
-  }
+  outer = keeping 1 (mutRefTo (0 ∷ []) tt (plain (λ _. row S)) ∷ plain (λ _. row I) ∷ plain (λ _. row J) ∷ []) (plain (λ _. u32))
 
   abbrev pub inner : Ended
-  inner = record {
-    signature = record {
-      lifetimes = 0;
-      outlives = [];
-      params = plain (λ _. row S) ∷ plain (λ _. row I) ∷ plain (λ _. row J) ∷ [];
-      result = plain (λ _. packed R);
-    };
-    kept = (yes, (yes, (yes, tt)));
-  }
+  inner = keeping 0 (plain (λ _. row S) ∷ plain (λ _. row I) ∷ plain (λ _. row J) ∷ []) (plain (λ _. packed R))
 
   abbrev pub fn-of : Name → Fn
   fn-of key = record {
@@ -88,18 +73,19 @@ module _ (S I J : Plain) (R : Packed S) where
     -- what the callee ensures, as the walk cites it
     module _ (P : S .D → I .D → J .D → R .D → Type 0) where
       abbrev called : Clauses 𝓤 inner
-      called κs a = record { ghost = Unit {0}; requires = λ _. emp 𝓤; ensures = λ _ r e. fact 𝓤 (P (a .0) (a .1 .0) (a .1 .1 .0) r) }
+      called = stating 𝓤 inner (λ κs a r e. P (a .0) (a .1 .0) (a .1 .1 .0) r)
 
       abbrev pub Called : Contract 𝓤
       Called = tripleOf 𝓤 H A (inner .signature) (closing 𝓤 H A inner called)
 
     -- and what the exported function does
     abbrev pub exported : (S .D → I .D → J .D → S .D → ℕ → Type 0) → Clauses 𝓤 outer
-    exported Q κs a = record { ghost = Unit {0}; requires = λ _. emp 𝓤; ensures = λ _ r e. fact 𝓤 (Q (a .0 .now) (a .1 .0) (a .1 .1 .0) (e .0 .now) r) }
+    exported Q = stating 𝓤 outer (λ κs a r e. Q (a .0 .now) (a .1 .0) (a .1 .1 .0) (e .0 .now) r)
 
     module _ (W : Given 𝓤 H A) (key : Name) (P : S .D → I .D → J .D → R .D → Type 0) (Q : S .D → I .D → J .D → S .D → ℕ → Type 0)
         (follows : (h : S .D) (i : I .D) (j : J .D) (r : R .D) → P h i j r → Q h i j (R .after r) (R .code r)) where
-      module _ (κ : Lft) (q : Share) (b o : ℕ) (γ : GName) (h : S .D) (i : I .D) (j : J .D) (i-is : Is (row I) i (vals I i)) (j-is : Is (row J) j (vals J j)) where
+      module _ (κ : Lft) (q : Share) (b o : ℕ) (γ : GName) (h : S .D) (i : I .D) (j : J .D)
+          (i-is : Is (row I) i (vals I i)) (j-is : Is (row J) j (vals J j)) where
         abbrev x : RefT (S .D) × (I .D × (J .D × Unit {0}))
         x = (record { ptr = (b, o); name = γ; now = h }, (i, (j, tt)))
 
@@ -140,16 +126,20 @@ module _ (S I J : Plain) (R : Packed S) where
               split ! $ move ! (2 ∷ []) $ fsplit ! $ fsplit3 ! $ drop ! $ move ! (0 ∷ 1 ∷ 3 ∷ []) $
               -- [obs; the borrow; the token; what i and j own; true]
               enter ! C Λ (fn-of key) (vptr b o ∷ I .val i ∷ J .val j ∷ []) _ $
-              alloc1 ! (λ l₀. alloc1 ! (λ l₁. alloc1 ! (λ l₂. alloc1 ! (λ l₃. alloc1 ! (λ l₄. alloc1 ! (λ l₅. alloc0 ! $ params1 ! $ pass1 ! (init ! 8 refl (tt, tt)) $
+              alloc1 ! (λ l₀. alloc1 ! (λ l₁. alloc1 ! (λ l₂. alloc1 ! (λ l₃. alloc1 ! (λ l₄. alloc1 ! (λ l₅. alloc0 ! $ params1 ! $
+              pass1 ! (init ! 8 refl (tt, tt)) $
               pass1 ! (init ! 6 refl (I .typed 𝓤 H A W i i-is)) $ pass1 ! (init ! 4 refl (J .typed 𝓤 H A W j j-is)) $ pass0 ! $
-              move ! (12 ∷ 13 ∷ 14 ∷ []) $ opens ! tt (row S) {h = h} b o (λ vs. spelt ! (row S) (Is (row S)) (shows 𝓤 H A (row S)) (vals S) (S .tells) fullShare h vs b o $
+              move ! (12 ∷ 13 ∷ 14 ∷ []) $ opens ! tt (row S) {h = h} b o (λ vs.
+              spelt ! (row S) (Is (row S)) (shows 𝓤 H A (row S)) (vals S) (S .tells) fullShare h vs b o $
               -- [m's cell; what it owns; the open borrow; obs; auth; _5; …; _4; …; _3; …; _2; …; _1; …; room for _0; …]
               move ! (1 ∷ []) $ peeks ! (row S) (Is (row S)) (shows 𝓤 H A (row S)) h (vals S h) (λ is.
-              assigns ! (of-opd ! (load ! (from ! (hop ! (look ! 13 refl) (stop !))) (look-raw ! 1 refl))) (from ! (stop !)) (init ! 5 refl (S .typed 𝓤 H A W h is)) $
+              assigns ! (of-opd ! (load ! (from ! (hop ! (look ! 13 refl) (stop !))) (look-raw ! 1 refl))) (from ! (stop !))
+              (init ! 5 refl (S .typed 𝓤 H A W h is)) $
               use1 W (raw (Called P .pre to-call)) goes-call $
               calls-at ! fm (Called P) known to-call (and-then ! (load ! (from ! (stop !)) (look ! 5 refl))
               (and-then ! (load ! (from ! (stop !)) (look ! 11 refl)) (and-then ! (load ! (from ! (stop !)) (look ! 9 refl)) (no-more !)))) (λ w.
-              use1 W (later (some (λ (r : R .D). (‵ ftrue ⊛ ‵ (R .own r (w ∷ []))) ⊛ raw (ensured 𝓤 H A inner (called P) tt (h, (i, (j, tt))) tt r)))) (id⊢ 𝓤 _) $
+              use1 W (later (some (λ (r : R .D). (‵ ftrue ⊛ ‵ (R .own r (w ∷ []))) ⊛ raw (ensured 𝓤 H A inner (called P) tt (h, (i, (j, tt))) tt r))))
+              (id⊢ 𝓤 _) $
               await ! tt $ pick ! (λ r. split ! $ move ! (1 ∷ []) $ use1 W (raw (fact 𝓤 (P h i j r))) (said r) $ heard ! (P h i j r) (λ e.
               split ! $ move ! (1 ∷ []) $ peeks ! (packed R) (Is (packed R)) (shows 𝓤 H A (packed R)) r (w ∷ []) (λ isr.
               -- [what the answer owns; true; the cell; the open borrow; obs; auth; _5; …]
@@ -167,14 +157,21 @@ module _ (S I J : Plain) (R : Packed S) where
               move ! (8 ∷ 9 ∷ []) $ free1 ! $ move ! (6 ∷ 7 ∷ []) $ free1 ! $ move ! (4 ∷ 5 ∷ []) $ free1 ! $ free0 ! $
               keep ! (0 ∷ 1 ∷ 2 ∷ []) $ by ! (exits r e (R .fields r (w ∷ []) isr .1))))))))))))))
 
-      all-walk : (C : Calls 𝓤 H) (Λ : Loops 𝓤 H) → FmC 𝓤 H (W .laws) C → Triple 𝓤 (C key) (Called P) → Walks 𝓤 H A outer stayed (WpFn 𝓤 H C Λ (fn-of key)) (exported Q)
+      all-walk : (C : Calls 𝓤 H) (Λ : Loops 𝓤 H) → FmC 𝓤 H (W .laws) C → Triple 𝓤 (C key) (Called P)
+          → Walks 𝓤 H A outer stayed (WpFn 𝓤 H C Λ (fn-of key)) (exported Q)
       all-walk C Λ fm known = walked 𝓤 H A outer stayed (exported Q) (WpFn 𝓤 H C Λ (fn-of key))
           (λ κs. (ptr-vals, (vals I, (vals J, tt)))) (λ κs. (mut-tells (named 0) (κs .0) (row S), (I .tells, (J .tells, tt))))
           (λ κs qs bounds a _ are. via 𝓤 _ (fst∗ 𝓤 _ (emp 𝓤))
           (walk (κs .0) (qs .0) (a .0 .ptr .0) (a .0 .ptr .1) (a .0 .name) (a .0 .now) (a .1 .0) (a .1 .1 .0) (are .1 .0) (are .1 .1 .0) C Λ fm known))
 
       goes : AllGo 𝓤 H A W 1 (outer .signature .params) (outer .kept) stayed
-      goes = (goes-ref 𝓤 H A W 1 0 tt (plain (λ _. row S)), (goes-none 𝓤 H A W 1 (λ _. row I) yes (λ κs x f. refl), (goes-none 𝓤 H A W 1 (λ _. row J) yes (λ κs x f. refl), tt)))
+      goes = (
+        goes-ref 𝓤 H A W 1 0 tt (plain (λ _. row S)),
+        (
+          goes-none 𝓤 H A W 1 (λ _. row I) yes (λ κs x f. refl),
+          (goes-none 𝓤 H A W 1 (λ _. row J) yes (λ κs x f. refl), tt),
+        ),
+      )
 
       pub meets : (𝓣 : Tables 𝓤 H) → Triple 𝓤 (𝓣 .C key) (Called P)
           → Meets 𝓤 H A (outer .signature) (WpFn 𝓤 H (𝓣 .C) (𝓣 .Λ) (fn-of key)) (closing 𝓤 H A outer (exported Q))

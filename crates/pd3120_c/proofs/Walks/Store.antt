@@ -41,31 +41,15 @@ use denote.Triple.Clauses.{Clauses, Ended, closing, ensured, lasts}
 use denote.Triple.Walked.{says, Stays, stay-none-ref, gave-slice, walkOf, Walks, ends-at, walked, walk-meets}
 use denote.Triple.Walked.{AllGo, goes-none-ref, goes-gave-slice}
 use denote.Exit.{yes}
-use Rattle.pd3120_c.proofs.Walks.Plain.{Plain, row, vals, makes, copy as twice}
+use Rattle.pd3120_c.proofs.Walks.Plain.{Plain, row, vals, makes, copy as twice, keeping, stating}
 
 module _ (S : Plain) where
   -- the exported function, and its callee
   abbrev pub outer : Ended
-  outer = record {
-    signature = record {
-      lifetimes = 2;
-      outlives = [];
-      params = shrRefTo (0 ∷ []) tt (plain (λ _. row S)) ∷ mutSliceOf (1 ∷ []) tt (plain (λ _. u8)) ∷ [];
-      result = plain (λ _. u32);
-    };
-    kept = (yes, (yes, tt));
-  }
+  outer = keeping 2 (shrRefTo (0 ∷ []) tt (plain (λ _. row S)) ∷ mutSliceOf (1 ∷ []) tt (plain (λ _. u8)) ∷ []) (plain (λ _. u32))
 
   abbrev pub inner : Ended
-  inner = record {
-    signature = record {
-      lifetimes = 1;
-      outlives = [];
-      params = plain (λ _. row S) ∷ mutSliceOf (0 ∷ []) tt (plain (λ _. u8)) ∷ [];
-      result = plain (λ _. u32);
-    };
-    kept = (yes, (yes, tt));
-  }
+  inner = keeping 1 (plain (λ _. row S) ∷ mutSliceOf (0 ∷ []) tt (plain (λ _. u8)) ∷ []) (plain (λ _. u32))
 
   abbrev pub fn-of : Name → Fn
   fn-of key = record {
@@ -90,14 +74,14 @@ module _ (S : Plain) where
   module _ {M : Type 1} (𝓤 : URA M) (H : Heap 𝓤) (A : Atoms 𝓤) (P : S .D → List ℕ → ℕ → List ℕ → Type 0) where
     -- what the callee ensures, as the walk cites it
     abbrev called : Clauses 𝓤 inner
-    called κs a = record { ghost = Unit {0}; requires = λ _. emp 𝓤; ensures = λ _ r e. fact 𝓤 (P (a .0) (a .1 .0 .now) r (e .1 .0 .now)) }
+    called = stating 𝓤 inner (λ κs a r e. P (a .0) (a .1 .0 .now) r (e .1 .0 .now))
 
     abbrev pub Called : Contract 𝓤
     Called = tripleOf 𝓤 H A (inner .signature) (closing 𝓤 H A inner called)
 
     -- and what the exported function does
     abbrev pub exported : Clauses 𝓤 outer
-    exported κs a = record { ghost = Unit {0}; requires = λ _. emp 𝓤; ensures = λ _ r e. fact 𝓤 (P (a .0 .now) (a .1 .0 .now) r (e .1 .0 .now)) }
+    exported = stating 𝓤 outer (λ κs a r e. P (a .0 .now) (a .1 .0 .now) r (e .1 .0 .now))
 
     module _ (W : Given 𝓤 H A) (key : Name) where
       module _ (κ κ′ : Lft) (q q′ : Share) (b o : ℕ) (γ : GName) (h : S .D) (y : RefT (List ℕ)) where
@@ -123,10 +107,12 @@ module _ (S : Plain) where
             → ent 𝓤 (sep 𝓤 (sep 𝓤 (A .lft κ′ q′) (sem 𝓤 H A ftrue)) (sep 𝓤 (sem 𝓤 H A (finally u8 (y .name) zs))
             (sep 𝓤 (A .lft κ q) (sep 𝓤 (A .shr-bor κ (λ t. partAt (row S) t h b o)) (A .res γ (S .coded .code h)))))) (Post (vint w32 r))
         exits r zs e l fits =
-            qed W ((‵ (flft κ′ q′) ⊛ ‵ ftrue) ∷ ‵ (finally u8 (y .name) zs) ∷ ‵ (flft κ q) ∷ ‵ (fshr-bor κ (λ t. partAt (row S) t h b o)) ∷ ‵ (fres γ (S .coded .code h)) ∷ []) ∵
+            qed W ((‵ (flft κ′ q′) ⊛ ‵ ftrue) ∷ ‵ (finally u8 (y .name) zs) ∷ ‵ (flft κ q) ∷ ‵ (fshr-bor κ (λ t. partAt (row S) t h b o))
+            ∷ ‵ (fres γ (S .coded .code h)) ∷ []) ∵
             suffices ! _ (ends-at 𝓤 H A outer stayed exported W (((κ, (κ′, tt)), (q, (q′, tt)), tt, x, at), tt) (vint w32 r) r (tt, (zs, tt)) (tt, (l, tt))) $
             says ! e $ move ! (2 ∷ 0 ∷ []) $ join ! $ frame ! $
-            feqI ! (List Val) (vptr b o ∷ []) (vptr b o ∷ []) refl $ move ! (0 ∷ 3 ∷ 2 ∷ []) $ fjoin3 ! $ nothing ! $ move ! (2 ∷ 0 ∷ []) $ fjoin ! $ move ! (1 ∷ 0 ∷ []) $ fjoin ! $
+            feqI ! (List Val) (vptr b o ∷ []) (vptr b o ∷ []) refl $ move ! (0 ∷ 3 ∷ 2 ∷ []) $ fjoin3 ! $ nothing ! $ move ! (2 ∷ 0 ∷ []) $ fjoin ! $
+            move ! (1 ∷ 0 ∷ []) $ fjoin ! $
             owned ! u32 (Is u32) (uint-makes 𝓤 H A W w32) r _ (refl, fits) $ move ! (1 ∷ 0 ∷ []) $ done !
 
         abbrev to-call : Called .Ghost
@@ -134,7 +120,8 @@ module _ (S : Plain) where
 
         goes-call : ent 𝓤 (sep 𝓤 (sep 𝓤 (A .lft κ′ q′) (sem 𝓤 H A Own)) (sem 𝓤 H A (S .own h (vals S h)))) (Called .pre to-call)
         goes-call =
-            qed W ((‵ (flft κ′ q′) ⊛ ‵ Own) ∷ ‵ (S .own h (vals S h)) ∷ []) ∵ split ! $ nothing ! $ move ! (2 ∷ 0 ∷ []) $ fjoin ! $ move ! (2 ∷ 0 ∷ []) $ fjoin ! $
+            qed W ((‵ (flft κ′ q′) ⊛ ‵ Own) ∷ ‵ (S .own h (vals S h)) ∷ []) ∵ split ! $ nothing ! $ move ! (2 ∷ 0 ∷ []) $ fjoin ! $ move ! (2 ∷ 0 ∷ []) $
+            fjoin ! $
             nothing ! $ move ! (2 ∷ 0 ∷ []) $ join ! $ join ! $ frame ! $ done !
 
         module _ (C : Calls 𝓤 H) (Λ : Loops 𝓤 H) (fm : FmC 𝓤 H (W .laws) C) (known : Triple 𝓤 (C key) Called) where
@@ -142,26 +129,32 @@ module _ (S : Plain) where
               (WpFn 𝓤 H C Λ (fn-of key) (vptr b o ∷ s ∷ []) Post)
           walk room =
               qed W ((‵ (flft κ q) ⊛ ‵ (flft κ′ q′) ⊛ ‵ ftrue) ∷ ‵ (owns (ShrRef (named 0) κ (row S) ∷ MutSlice (named 1) κ′ u8 ∷ []) x at) ∷ []) ∵
-              split ! $ move ! (1 ∷ []) $ split ! $ move ! (3 ∷ []) $ fsplit ! $ fsplit3 ! $ drop ! $ move ! (2 ∷ []) $ fsplit ! $ move ! (3 ∷ 6 ∷ 2 ∷ 0 ∷ 4 ∷ []) $
+              split ! $ move ! (1 ∷ []) $ split ! $ move ! (3 ∷ []) $ fsplit ! $ fsplit3 ! $ drop ! $ move ! (2 ∷ []) $ fsplit ! $
+              move ! (3 ∷ 6 ∷ 2 ∷ 0 ∷ 4 ∷ []) $
               -- [the fractured borrow; the token; res; what buf owns; its token; true; true]
               enter ! C Λ (fn-of key) (vptr b o ∷ s ∷ []) _ $
               alloc1 ! (λ l₀. alloc1 ! (λ l₁. alloc1 ! (λ l₂. alloc1 ! (λ l₃. alloc1 ! (λ l₄. alloc1 ! (λ l₅. alloc0 ! $ params1 ! $
               pass1 ! (init ! 8 refl (tt, tt)) $ pass1 ! (init ! 6 refl (tt, (tt, (record { fits = room .0 }, tt)))) $ pass0 ! $
               move ! (12 ∷ 13 ∷ []) $ looks ! tt (row S) (Is (row S)) (shows 𝓤 H A (row S)) (vals S) (S .tells) (twice S 𝓤 H A W) h b o (λ s′ vs.
               spelt ! (row S) (Is (row S)) (shows 𝓤 H A (row S)) (vals S) (S .tells) s′ h vs b o $
-              -- [a share of m's cell; what it owns; the open borrow; the fractured borrow; _5; …; _4; …; _3; …; _2; …; _1; …; room for _0; …; res; what buf owns; its token]
+              -- [a share of m's cell; what it owns; the open one; the fractured borrow; _5; …; _4; …; _3; …; _2; …; _1; …; room for _0; …; res; buf; its token]
               move ! (1 ∷ []) $ peeks ! (row S) (Is (row S)) (shows 𝓤 H A (row S)) h (vals S h) (λ is.
-              assigns ! (of-opd ! (load ! (from ! (hop ! (look ! 12 refl) (stop !))) (look-raw ! 1 refl))) (from ! (stop !)) (init ! 8 refl (S .typed 𝓤 H A W h is)) $
+              assigns ! (of-opd ! (load ! (from ! (hop ! (look ! 12 refl) (stop !))) (look-raw ! 1 refl))) (from ! (stop !))
+              (init ! 8 refl (S .typed 𝓤 H A W h is)) $
               move ! (1 ∷ 0 ∷ []) $ shuts ! tt (row S) s′ h (vals S h) b o $
-              -- [the token; the fractured borrow; _5; …; _4; …; _3; …; _2; …; _1; …; room for _0; …; res; what buf owns; its token]
+              -- [the token; the fractured borrow; _5; …; _4; …; _3; …; _2; …; _1; …; room for _0; …; res; buf; its token]
               assigns ! (addr ! (from ! (fld ! refl (hop ! (look-in ! 8 (sub ! 0 refl (whole !))) (stop !))))) (from ! (stop !)) (init ! 4 refl (tt, tt)) $
-              assigns ! (agg ! (and-then ! (load ! (from ! (stop !)) (look ! 4 refl)) (and-then ! (load ! (from ! (fld ! refl (stop !))) (look-in ! 8 (sub ! 1 refl (whole !)))) (no-more !))))
+              assigns ! (agg ! (and-then ! (load ! (from ! (stop !)) (look ! 4 refl))
+              (and-then ! (load ! (from ! (fld ! refl (stop !))) (look-in ! 8 (sub ! 1 refl (whole !)))) (no-more !))))
               (from ! (stop !)) (init ! 2 refl (tt, (tt, (record { fits = room .0 }, tt)))) $
               owned ! (row S) (Is (row S)) (makes S 𝓤 H A) h _ is $ move ! (17 ∷ 16 ∷ 0 ∷ []) $ join ! $ use2 W (raw (Called .pre to-call)) goes-call $
-              calls-at ! fm Called known to-call (and-then ! (load ! (from ! (stop !)) (look ! 7 refl)) (and-then ! (load ! (from ! (stop !)) (look ! 3 refl)) (no-more !))) (λ w.
-              use1 W (later (some (λ (r : ℕ). ((‵ (flft κ′ q′) ⊛ ‵ ftrue) ⊛ ‵ (u32 .own r (w ∷ []))) ⊛ raw (ensured 𝓤 H A inner called (κ′, tt) (h, (y, tt)) tt r)))) (id⊢ 𝓤 _) $
+              calls-at ! fm Called known to-call (and-then ! (load ! (from ! (stop !)) (look ! 7 refl))
+              (and-then ! (load ! (from ! (stop !)) (look ! 3 refl)) (no-more !))) (λ w.
+              use1 W (later (some (λ (r : ℕ). ((‵ (flft κ′ q′) ⊛ ‵ ftrue) ⊛ ‵ (u32 .own r (w ∷ [])))
+              ⊛ raw (ensured 𝓤 H A inner called (κ′, tt) (h, (y, tt)) tt r)))) (id⊢ 𝓤 _) $
               await ! tt $ pick ! (λ r. split ! $ move ! (1 ∷ []) $
-              use1 W (some (λ (zs : Unit {0} × (List ℕ × Unit {0})). ‵ (lasts inner (κ′, tt) (h, (y, tt)) zs) ⊛ raw (fact 𝓤 (Says r (zs .1 .0))))) (id⊢ 𝓤 _) $ pick ! (λ zs.
+              use1 W (some (λ (zs : Unit {0} × (List ℕ × Unit {0})). ‵ (lasts inner (κ′, tt) (h, (y, tt)) zs) ⊛ raw (fact 𝓤 (Says r (zs .1 .0)))))
+              (id⊢ 𝓤 _) $ pick ! (λ zs.
               split ! $ move ! (1 ∷ []) $ heard ! (Says r (zs .1 .0)) (λ e. fsplit ! $ drop ! $ fsplit ! $ fsplit ! $ move ! (1 ∷ []) $ feqL ! (λ l.
               -- [the last bytes; true; the token and the answer; the token; …]
               move ! (2 ∷ []) $ split ! $ move ! (1 ∷ []) $ peeks ! u32 (Is u32) (shows 𝓤 H A u32) r (w ∷ []) (λ isr.
@@ -173,7 +166,8 @@ module _ (S : Plain) where
               move ! (10 ∷ 11 ∷ []) $ free1 ! $ move ! (8 ∷ 9 ∷ []) $ free1 ! $ move ! (6 ∷ 7 ∷ []) $ free1 ! $ free0 ! $
               keep ! (1 ∷ 2 ∷ 4 ∷ 5 ∷ 6 ∷ []) $ by ! (exits r (zs .1 .0) e l (isr .1))))))))))))))))
 
-      all-walk : (C : Calls 𝓤 H) (Λ : Loops 𝓤 H) → FmC 𝓤 H (W .laws) C → Triple 𝓤 (C key) Called → Walks 𝓤 H A outer stayed (WpFn 𝓤 H C Λ (fn-of key)) exported
+      all-walk : (C : Calls 𝓤 H) (Λ : Loops 𝓤 H) → FmC 𝓤 H (W .laws) C → Triple 𝓤 (C key) Called
+          → Walks 𝓤 H A outer stayed (WpFn 𝓤 H C Λ (fn-of key)) exported
       all-walk C Λ fm known = walked 𝓤 H A outer stayed exported (WpFn 𝓤 H C Λ (fn-of key))
           (λ κs. (ptr-vals, (slice-vals, tt))) (λ κs. (shr-tells (named 0) (κs .0) (row S), (mut-slice-tells (named 1) (κs .1 .0) u8, tt)))
           (λ κs qs bounds a _ are. via 𝓤 _ (fst∗ 𝓤 _ (emp 𝓤))

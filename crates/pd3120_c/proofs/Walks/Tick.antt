@@ -37,32 +37,15 @@ use denote.Triple.Call.{calls-at}
 use denote.Triple.Clauses.{Clauses, Ended, closing, ensured, lasts}
 use denote.Triple.Walked.{says, Stays, stay-ref, walkOf, Walks, ends-at, walked, walk-meets}
 use denote.Triple.Walked.{AllGo, goes-ref}
-use denote.Exit.{yes}
-use Rattle.pd3120_c.proofs.Walks.Plain.{Plain, row, vals, makes, value, related, lands}
+use Rattle.pd3120_c.proofs.Walks.Plain.{Plain, row, vals, makes, value, related, lands, keeping, stating}
 
 module _ (S : Plain) where
   -- the exported function, and its callee
   abbrev pub outer : Ended
-  outer = record {
-    signature = record {
-      lifetimes = 1;
-      outlives = [];
-      params = mutRefTo (0 ∷ []) tt (plain (λ _. row S)) ∷ [];
-      result = plain (λ _. nil);
-    };
-    kept = (yes, tt);
-  }
+  outer = keeping 1 (mutRefTo (0 ∷ []) tt (plain (λ _. row S)) ∷ []) (plain (λ _. nil))
 
   abbrev pub inner : Ended
-  inner = record {
-    signature = record {
-      lifetimes = 0;
-      outlives = [];
-      params = plain (λ _. row S) ∷ [];
-      result = plain (λ _. row S);
-    };
-    kept = (yes, tt);
-  }
+  inner = keeping 0 (plain (λ _. row S) ∷ []) (plain (λ _. row S))
 
   abbrev pub fn-of : Name → Fn
   fn-of key = record {
@@ -70,7 +53,8 @@ module _ (S : Plain) where
     outlives = [];
     params = 1;
     locals =
-        local tyUnit valueLocal ∷ local (tyRef (named 0) mut (pointee (S .written))) valueLocal ∷ local (S .mir) valueLocal ∷ local (S .mir) valueLocal ∷ [];
+        local tyUnit valueLocal ∷ local (tyRef (named 0) mut (pointee (S .written))) valueLocal ∷ local (S .mir) valueLocal
+        ∷ local (S .mir) valueLocal ∷ [];
     body =
         seq (assign (place 3 []) (rvOpd (copy (place 1 (deref (S .mir) ∷ [])))))
         (seq (call key (copy (place 3 []) ∷ []) (place 2 []))
@@ -84,14 +68,14 @@ module _ (S : Plain) where
   module _ {M : Type 1} (𝓤 : URA M) (H : Heap 𝓤) (A : Atoms 𝓤) (P : S .D → S .D → Type 0) where
     -- what the callee ensures, as the walk cites it
     abbrev called : Clauses 𝓤 inner
-    called κs a = record { ghost = Unit {0}; requires = λ _. emp 𝓤; ensures = λ _ r e. fact 𝓤 (P (a .0) r) }
+    called = stating 𝓤 inner (λ κs a r e. P (a .0) r)
 
     abbrev pub Called : Contract 𝓤
     Called = tripleOf 𝓤 H A (inner .signature) (closing 𝓤 H A inner called)
 
     -- and what the exported function does
     abbrev pub exported : Clauses 𝓤 outer
-    exported κs a = record { ghost = Unit {0}; requires = λ _. emp 𝓤; ensures = λ _ r e. fact 𝓤 (P (a .0 .now) (e .0 .now)) }
+    exported = stating 𝓤 outer (λ κs a r e. P (a .0 .now) (e .0 .now))
 
     module _ (W : Given 𝓤 H A) (key : Name) where
       module _ (κ : Lft) (q : Share) (b o : ℕ) (γ : GName) (h : S .D) where
@@ -130,10 +114,12 @@ module _ (S : Plain) where
               -- [obs; the borrow; the token; true; true]
               enter ! C Λ (fn-of key) (vptr b o ∷ []) _ $ alloc1 ! (λ l₀. alloc1 ! (λ l₁. alloc1 ! (λ l₂. alloc1 ! (λ l₃. alloc0 ! $ params1 ! $
               pass1 ! (init ! 4 refl (tt, tt)) $ pass0 ! $
-              move ! (8 ∷ 9 ∷ 10 ∷ []) $ opens ! tt (row S) {h = h} b o (λ vs. spelt ! (row S) (Is (row S)) (shows 𝓤 H A (row S)) (vals S) (S .tells) fullShare h vs b o $
+              move ! (8 ∷ 9 ∷ 10 ∷ []) $ opens ! tt (row S) {h = h} b o (λ vs.
+              spelt ! (row S) (Is (row S)) (shows 𝓤 H A (row S)) (vals S) (S .tells) fullShare h vs b o $
               -- [m's cell; what it owns; the open borrow; obs; auth; _3; …; _2; …; _1; …; room for _0; …]
               move ! (1 ∷ []) $ peeks ! (row S) (Is (row S)) (shows 𝓤 H A (row S)) h (vals S h) (λ is.
-              assigns ! (of-opd ! (load ! (from ! (hop ! (look ! 9 refl) (stop !))) (look-raw ! 1 refl))) (from ! (stop !)) (init ! 5 refl (S .typed 𝓤 H A W h is)) $
+              assigns ! (of-opd ! (load ! (from ! (hop ! (look ! 9 refl) (stop !))) (look-raw ! 1 refl))) (from ! (stop !))
+              (init ! 5 refl (S .typed 𝓤 H A W h is)) $
               use1 W (raw (Called .pre to-call)) goes-call $
               calls-at ! fm Called known to-call (and-then ! (load ! (from ! (stop !)) (look ! 5 refl)) (no-more !)) (λ w.
               use1 W (later (some (λ (r : S .D). (‵ ftrue ⊛ ‵ (S .own r (w ∷ []))) ⊛ raw (ensured 𝓤 H A inner called tt (h, tt) tt r)))) (id⊢ 𝓤 _) $
@@ -152,7 +138,8 @@ module _ (S : Plain) where
               move ! (10 ∷ 11 ∷ []) $ free1 ! $ move ! (8 ∷ 9 ∷ []) $ free1 ! $ move ! (6 ∷ 7 ∷ []) $ free1 ! $ move ! (4 ∷ 5 ∷ []) $ free1 ! $ free0 ! $
               keep ! (0 ∷ 1 ∷ 2 ∷ []) $ by ! (exits r e)))))))))))
 
-      all-walk : (C : Calls 𝓤 H) (Λ : Loops 𝓤 H) → FmC 𝓤 H (W .laws) C → Triple 𝓤 (C key) Called → Walks 𝓤 H A outer stayed (WpFn 𝓤 H C Λ (fn-of key)) exported
+      all-walk : (C : Calls 𝓤 H) (Λ : Loops 𝓤 H) → FmC 𝓤 H (W .laws) C → Triple 𝓤 (C key) Called
+          → Walks 𝓤 H A outer stayed (WpFn 𝓤 H C Λ (fn-of key)) exported
       all-walk C Λ fm known = walked 𝓤 H A outer stayed exported (WpFn 𝓤 H C Λ (fn-of key))
           (λ κs. (ptr-vals, tt)) (λ κs. (mut-tells (named 0) (κs .0) (row S), tt))
           (λ κs qs bounds a _ are. via 𝓤 _ (fst∗ 𝓤 _ (emp 𝓤)) (walk (κs .0) (qs .0) (a .0 .ptr .0) (a .0 .ptr .1) (a .0 .name) (a .0 .now) C Λ fm known))

@@ -1,6 +1,7 @@
 -- The walk of an exported call that takes a value and bytes. A function of the shape
 --     pub extern "C" fn f(m: &mut S, i: I, bytes: &[u8]) -> u32 { let done = call(*m, i, bytes); *m = done.after; done.code }
--- leaves Q, where its callee, of which only its contract is known, gives a `done` of which P holds, and Q follows from P. `fn-of` is its MIR but for the callee's key.
+-- leaves Q, where its callee, of which only its contract is known, gives a `done` of which P holds, and Q follows from P.
+-- `fn-of` is its MIR but for the callee's key.
 -- The borrow of m is opened, its value copied out for the call, the callee's stored in its place, and the borrow closed at that value.
 -- Assumes nothing.
 use mathlib.Core.Path.{refl, ap}
@@ -42,31 +43,15 @@ use denote.Triple.Clauses.{Clauses, Ended, closing, ensured, lasts}
 use denote.Triple.Walked.{says, Stays, stay-ref, stay-none, stay-none-slice, walkOf, Walks, ends-at, walked, walk-meets}
 use denote.Triple.Walked.{AllGo, goes-ref, goes-none, goes-none-slice}
 use denote.Exit.{yes}
-use Rattle.pd3120_c.proofs.Walks.Plain.{Plain, row, vals, makes, copy as twice, Packed, packed, packed-mir}
+use Rattle.pd3120_c.proofs.Walks.Plain.{Plain, row, vals, makes, copy as twice, Packed, packed, packed-mir, keeping, stating}
 
 module _ (S I : Plain) (R : Packed S) where
   -- the exported function, and its callee
   abbrev pub outer : Ended
-  outer = record {
-    signature = record {
-      lifetimes = 2;
-      outlives = [];
-      params = mutRefTo (0 ∷ []) tt (plain (λ _. row S)) ∷ plain (λ _. row I) ∷ shrSliceOf (1 ∷ []) tt (plain (λ _. u8)) ∷ [];
-      result = plain (λ _. u32);
-    };
-    kept = (yes, (yes, (yes, tt)));
-  }
+  outer = keeping 2 (mutRefTo (0 ∷ []) tt (plain (λ _. row S)) ∷ plain (λ _. row I) ∷ shrSliceOf (1 ∷ []) tt (plain (λ _. u8)) ∷ []) (plain (λ _. u32))
 
   abbrev pub inner : Ended
-  inner = record {
-    signature = record {
-      lifetimes = 1;
-      outlives = [];
-      params = plain (λ _. row S) ∷ plain (λ _. row I) ∷ shrSliceOf (0 ∷ []) tt (plain (λ _. u8)) ∷ [];
-      result = plain (λ _. packed R);
-    };
-    kept = (yes, (yes, (yes, tt)));
-  }
+  inner = keeping 1 (plain (λ _. row S) ∷ plain (λ _. row I) ∷ shrSliceOf (0 ∷ []) tt (plain (λ _. u8)) ∷ []) (plain (λ _. packed R))
 
   abbrev pub fn-of : Name → Fn
   fn-of key = record {
@@ -91,14 +76,14 @@ module _ (S I : Plain) (R : Packed S) where
     -- what the callee ensures, as the walk cites it
     module _ (P : S .D → I .D → List ℕ → R .D → Type 0) where
       abbrev called : Clauses 𝓤 inner
-      called κs a = record { ghost = Unit {0}; requires = λ _. emp 𝓤; ensures = λ _ r e. fact 𝓤 (P (a .0) (a .1 .0) (a .1 .1 .0 .now) r) }
+      called = stating 𝓤 inner (λ κs a r e. P (a .0) (a .1 .0) (a .1 .1 .0 .now) r)
 
       abbrev pub Called : Contract 𝓤
       Called = tripleOf 𝓤 H A (inner .signature) (closing 𝓤 H A inner called)
 
     -- and what the exported function does
     abbrev pub exported : (S .D → I .D → List ℕ → S .D → ℕ → Type 0) → Clauses 𝓤 outer
-    exported Q κs a = record { ghost = Unit {0}; requires = λ _. emp 𝓤; ensures = λ _ r e. fact 𝓤 (Q (a .0 .now) (a .1 .0) (a .1 .1 .0 .now) (e .0 .now) r) }
+    exported Q = stating 𝓤 outer (λ κs a r e. Q (a .0 .now) (a .1 .0) (a .1 .1 .0 .now) (e .0 .now) r)
 
     module _ (W : Given 𝓤 H A) (key : Name) (P : S .D → I .D → List ℕ → R .D → Type 0) (Q : S .D → I .D → List ℕ → S .D → ℕ → Type 0)
         (follows : (h : S .D) (i : I .D) (ys : List ℕ) (r : R .D) → P h i ys r → Q h i ys (R .after r) (R .code r)) where
@@ -129,7 +114,8 @@ module _ (S I : Plain) (R : Packed S) where
             → ent 𝓤 (sep 𝓤 (A .obs γ (S .coded .code (R .after r))) (sep 𝓤 (A .bor κ (Body (mem (row S)) b o γ))
             (sep 𝓤 (A .lft κ q) (sep 𝓤 (sep 𝓤 (A .lft κ′ q′) (sem 𝓤 H A ftrue)) (sem 𝓤 H A Own))))) (Post (vint w32 (R .code r)))
         exits r e fits =
-            qed W (‵ (fobs γ (S .coded .code (R .after r))) ∷ ‵ (fbor κ (Body (mem (row S)) b o γ)) ∷ ‵ (flft κ q) ∷ (‵ (flft κ′ q′) ⊛ ‵ ftrue) ∷ ‵ Own ∷ []) ∵
+            qed W (‵ (fobs γ (S .coded .code (R .after r))) ∷ ‵ (fbor κ (Body (mem (row S)) b o γ)) ∷ ‵ (flft κ q)
+            ∷ (‵ (flft κ′ q′) ⊛ ‵ ftrue) ∷ ‵ Own ∷ []) ∵
             suffices ! _ (ends-at 𝓤 H A outer stayed (exported Q) W (((κ, (κ′, tt)), (q, (q′, tt)), tt, x, at), tt)
             (vint w32 (R .code r)) (R .code r) (R .after r, (tt, (tt, tt))) (tt, (tt, (tt, tt)))) $
             says ! (follows h i (y .now) r e) $ move ! (2 ∷ 3 ∷ []) $ join ! $ frame ! $
@@ -155,16 +141,20 @@ module _ (S I : Plain) (R : Packed S) where
               use1 W (‵ Own ⊛ ‵ Own) (shr-slice-copy 𝓤 H A W (named 1) κ′ u8 .twice y (s ∷ [])) $ split ! $ move ! (3 ∷ 4 ∷ 7 ∷ 0 ∷ 5 ∷ 1 ∷ []) $
               -- [obs; the borrow; the token; what bytes owns; its token; what bytes owns; true; true]
               enter ! C Λ (fn-of key) (vptr b o ∷ I .val i ∷ s ∷ []) _ $
-              alloc1 ! (λ l₀. alloc1 ! (λ l₁. alloc1 ! (λ l₂. alloc1 ! (λ l₃. alloc1 ! (λ l₄. alloc1 ! (λ l₅. alloc0 ! $ params1 ! $ pass1 ! (init ! 8 refl (tt, tt)) $
+              alloc1 ! (λ l₀. alloc1 ! (λ l₁. alloc1 ! (λ l₂. alloc1 ! (λ l₃. alloc1 ! (λ l₄. alloc1 ! (λ l₅. alloc0 ! $ params1 ! $
+              pass1 ! (init ! 8 refl (tt, tt)) $
               pass1 ! (init ! 6 refl (I .typed 𝓤 H A W i i-is)) $ pass1 ! (init ! 4 refl (tt, (tt, (record { fits = room .0 }, tt)))) $ pass0 ! $
-              move ! (12 ∷ 13 ∷ 14 ∷ []) $ opens ! tt (row S) {h = h} b o (λ vs. spelt ! (row S) (Is (row S)) (shows 𝓤 H A (row S)) (vals S) (S .tells) fullShare h vs b o $
-              -- [m's cell; what it owns; the open borrow; obs; auth; _5; …; _4; …; _3; …; _2; …; _1; …; room for _0; …; what bytes owns; its token; what bytes owns]
+              move ! (12 ∷ 13 ∷ 14 ∷ []) $ opens ! tt (row S) {h = h} b o (λ vs.
+              spelt ! (row S) (Is (row S)) (shows 𝓤 H A (row S)) (vals S) (S .tells) fullShare h vs b o $
+              -- [m's cell; what it owns; the open borrow; obs; auth; _5; …; _4; …; _3; …; _2; …; _1; …; room for _0; …; bytes, its token, bytes]
               move ! (1 ∷ []) $ peeks ! (row S) (Is (row S)) (shows 𝓤 H A (row S)) h (vals S h) (λ is.
-              assigns ! (of-opd ! (load ! (from ! (hop ! (look ! 13 refl) (stop !))) (look-raw ! 1 refl))) (from ! (stop !)) (init ! 5 refl (S .typed 𝓤 H A W h is)) $
+              assigns ! (of-opd ! (load ! (from ! (hop ! (look ! 13 refl) (stop !))) (look-raw ! 1 refl))) (from ! (stop !))
+              (init ! 5 refl (S .typed 𝓤 H A W h is)) $
               move ! (18 ∷ 17 ∷ 0 ∷ []) $ join ! $ use2 W (raw (Called P .pre to-call)) goes-call $
               calls-at ! fm (Called P) known to-call (and-then ! (load ! (from ! (stop !)) (look ! 5 refl))
               (and-then ! (load ! (from ! (stop !)) (look ! 11 refl)) (and-then ! (load ! (from ! (stop !)) (look ! 9 refl)) (no-more !)))) (λ w.
-              use1 W (later (some (λ (r : R .D). ((‵ (flft κ′ q′) ⊛ ‵ ftrue) ⊛ ‵ (R .own r (w ∷ []))) ⊛ raw (ensured 𝓤 H A inner (called P) (κ′, tt) (h, (i, (y, tt))) tt r)))) (id⊢ 𝓤 _) $
+              use1 W (later (some (λ (r : R .D). ((‵ (flft κ′ q′) ⊛ ‵ ftrue) ⊛ ‵ (R .own r (w ∷ [])))
+              ⊛ raw (ensured 𝓤 H A inner (called P) (κ′, tt) (h, (i, (y, tt))) tt r)))) (id⊢ 𝓤 _) $
               await ! tt $ pick ! (λ r. split ! $ move ! (1 ∷ []) $ use1 W (raw (fact 𝓤 (Says r))) (said r) $ heard ! (Says r) (λ e.
               split ! $ move ! (1 ∷ []) $ peeks ! (packed R) (Is (packed R)) (shows 𝓤 H A (packed R)) r (w ∷ []) (λ isr.
               -- [what the answer owns; bytes' token; the cell; the open borrow; obs; auth; _5; …]
@@ -182,15 +172,23 @@ module _ (S I : Plain) (R : Packed S) where
               move ! (8 ∷ 9 ∷ []) $ free1 ! $ move ! (6 ∷ 7 ∷ []) $ free1 ! $ move ! (4 ∷ 5 ∷ []) $ free1 ! $ free0 ! $
               keep ! (0 ∷ 1 ∷ 2 ∷ 3 ∷ 4 ∷ []) $ by ! (exits r e (R .fields r (w ∷ []) isr .1))))))))))))))
 
-      all-walk : (C : Calls 𝓤 H) (Λ : Loops 𝓤 H) → FmC 𝓤 H (W .laws) C → Triple 𝓤 (C key) (Called P) → Walks 𝓤 H A outer stayed (WpFn 𝓤 H C Λ (fn-of key)) (exported Q)
+      all-walk : (C : Calls 𝓤 H) (Λ : Loops 𝓤 H) → FmC 𝓤 H (W .laws) C → Triple 𝓤 (C key) (Called P)
+          → Walks 𝓤 H A outer stayed (WpFn 𝓤 H C Λ (fn-of key)) (exported Q)
       all-walk C Λ fm known = walked 𝓤 H A outer stayed (exported Q) (WpFn 𝓤 H C Λ (fn-of key))
           (λ κs. (ptr-vals, (vals I, (slice-vals, tt))))
           (λ κs. (mut-tells (named 0) (κs .0) (row S), (I .tells, (shr-slice-tells (named 1) (κs .1 .0) u8, tt))))
           (λ κs qs bounds a _ are. via 𝓤 _ (fst∗ 𝓤 _ (emp 𝓤))
-          (walk (κs .0) (κs .1 .0) (qs .0) (qs .1 .0) (a .0 .ptr .0) (a .0 .ptr .1) (a .0 .name) (a .0 .now) (a .1 .0) (a .1 .1 .0) (are .1 .0) C Λ fm known (are .1 .1 .0 .0 .1)))
+          (walk (κs .0) (κs .1 .0) (qs .0) (qs .1 .0) (a .0 .ptr .0) (a .0 .ptr .1) (a .0 .name) (a .0 .now) (a .1 .0) (a .1 .1 .0)
+          (are .1 .0) C Λ fm known (are .1 .1 .0 .0 .1)))
 
       goes : AllGo 𝓤 H A W 2 (outer .signature .params) (outer .kept) stayed
-      goes = (goes-ref 𝓤 H A W 2 0 tt (plain (λ _. row S)), (goes-none 𝓤 H A W 2 (λ _. row I) yes (λ κs x f. refl), (goes-none-slice 𝓤 H A W 2 (1 ∷ []) tt (plain (λ _. u8)) yes, tt)))
+      goes = (
+        goes-ref 𝓤 H A W 2 0 tt (plain (λ _. row S)),
+        (
+          goes-none 𝓤 H A W 2 (λ _. row I) yes (λ κs x f. refl),
+          (goes-none-slice 𝓤 H A W 2 (1 ∷ []) tt (plain (λ _. u8)) yes, tt),
+        ),
+      )
 
       pub meets : (𝓣 : Tables 𝓤 H) → Triple 𝓤 (𝓣 .C key) (Called P)
           → Meets 𝓤 H A (outer .signature) (WpFn 𝓤 H (𝓣 .C) (𝓣 .Λ) (fn-of key)) (closing 𝓤 H A outer (exported Q))

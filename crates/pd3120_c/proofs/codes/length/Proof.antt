@@ -1,33 +1,28 @@
--- `length` meets its contract. Assumes nothing.
+-- `codes::length` meets its contract. Assumes nothing.
 use borrow.Author.Needs.{needs}
 use mathlib.Core.Path.{subst}
 use Prim.Native.Nat.{_≤_}
 use native.Mathlib.Omega.{arith}
 use Rattle.model.specs.declared.Reply.{Reply}
 use Rattle.model.specs.Questions.{lengthOf}
-use Rattle.pd3120_c.specs.Codes.{longest}
+use Rattle.model.specs.Image.{imageSize}
 use Rattle.pd3120_c.proofs.codes.length.Statement.{statement}
 use Rattle.pd3120_c.proofs.codes.length.Tie as tie
-use Rattle.pd3120_c.proofs.codes.length.Reads as reads
-use Rattle.pd3120_c.proofs.codes.length.Lts as lts
 
--- src/codes.rt:48:21
 enum-known-reply : tie.Need-enum-known-reply
 enum-known-reply c = search needs
 
--- src/codes.rt:48:27
 cast-result : tie.Need-cast-result
-cast-result c = let h = subst (λ (r : Reply). lengthOf r ≤ longest) (c .before .reply .given .1) (c .before .before .before .pre) in omega (arith, h)
+cast-result c =
+    let h = subst (λ (r : Reply). lengthOf r ≤ imageSize) (c .before .reply .given .1) (c .before .before .before .pre) in
+    omega (arith, h)
 
--- src/codes.rt:49:30
 enum-told : tie.Need-enum-told
 enum-told c = search needs
 
--- src/codes.rt:43:1
 returns : tie.Need-returns
 returns c = search needs
 
--- src/codes.rt:43:1
 returns-2 : tie.Need-returns-2
 returns-2 c = search needs
 
