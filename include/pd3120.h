@@ -1,0 +1,273 @@
+/*
+ * The PD 3120 channel box, from C and C++. Link with libpd3120_c.a.
+ *
+ * A box is a pd3120_module in the caller's memory; the library holds nothing else. SWNo is channel
+ * times $10 + register. Numbers of several bytes have the high byte first.
+ *
+ * Two names for each call:
+ *   pd3120_read          the proved function itself. It trusts its pointers.
+ *   pd3120_checked_read  tests the pointers, refuses bad ones by a number of its own, then calls it.
+ * The plain name is the archive's symbol, so that a program calls what the linker and the debugger
+ * show; no macro stands between. Where nothing is known of the pointers, use the checked call.
+ *
+ * What a caller owes every call; a checked call tests itself what is marked so:
+ * - the module is not null, and is aligned to PD3120_MODULE_ALIGN (checked);
+ * - its memory has PD3120_MODULE_SIZE bytes, all zero or as a call left them. Nothing else writes
+ *   into it; it may be copied by assignment. Static memory is zero, and a local one is set by
+ *   `pd3120_module box = {{0}};`. Zero memory is a valid box, though not the one that a refused
+ *   power-up gives: that one has His bit 7 of the service channel set;
+ * - a buffer has as many bytes as its length says, all initialised;
+ * - a buffer is not null (checked; there it may be null where its length is 0);
+ * - a buffer and the module have no byte in common (checked);
+ * - no other thread uses the module or the buffer during the call;
+ * - the stack has room: as built for x86-64, 17 KiB for a read and 5 KiB for any other call.
+ */
+#ifndef PD3120_H
+#define PD3120_H
+
+#include <stddef.h>
+#include <stdint.h>
+#ifndef __cplusplus
+#include <stdbool.h>
+#endif
+
+#ifdef __cplusplus
+extern "C" {
+#endif
+
+#define PD3120_MODULE_SIZE 1504 /* bytes */
+#define PD3120_MODULE_ALIGN 4   /* bytes */
+#define PD3120_IMAGE_SIZE 717   /* bytes of a setup image */
+
+/* A box. Only the library looks inside. */
+typedef struct pd3120_module {
+    uint32_t state[PD3120_MODULE_SIZE / 4];
+} pd3120_module;
+
+/*
+ * The number of an answer: 0, or the question that was answered no. The questions are those of
+ * document 01, "Questions in order".
+ */
+enum pd3120_numbers {
+    PD3120_DONE = 0,
+    /* wire calls */
+    PD3120_BEYOND = 1,           /* SWNo at most $11F? */
+    PD3120_UNLISTED = 2,         /* Register listed? */
+    PD3120_NOT_WRITABLE = 3,     /* On a write, writable? */
+    PD3120_WRONG_LENGTH = 4,     /* On a write, exact length? */
+    PD3120_BUFFER_TOO_SHORT = 5, /* On a read, buffer long enough? */
+    PD3120_NOT_ENABLED = 6,      /* On a write of a protected register, WriteEnable TRUE? */
+    PD3120_NOT_ALLOWED = 7,      /* On a write, value allowed? */
+    /* samples */
+    PD3120_NO_CHANNEL = 8, /* Channel 1 to 16? */
+    PD3120_NOT_FINITE = 9, /* Current finite? */
+    /* power-up */
+    PD3120_IMAGE_LENGTH = 10, /* 717 bytes? */
+    PD3120_IMAGE_COUNTS = 11, /* Counts right? */
+    PD3120_IMAGE_SUM = 12,    /* Sum right? */
+    PD3120_IMAGE_VALUES = 13, /* Values allowed? */
+    /* storing */
+    PD3120_NO_ROOM = 14, /* Buffer at least 717? */
+    /* checked calls only, before the box is asked anything */
+    PD3120_BAD_MODULE = 254, /* Module not null, and aligned? */
+    PD3120_BAD_BUFFER = 255  /* Buffer not null, and apart from the module? */
+};
+
+/*
+ * An answer is one code: bits 0 to 7 the number, bits 8 to 23 the length, bit 24 DataError, bit 25
+ * GeneralError. The length and the two bits are 0 where a call does not answer them.
+ */
+static inline uint32_t pd3120_number(uint32_t code)
+{
+    return code & 0xFFu;
+}
+
+static inline size_t pd3120_length(uint32_t code)
+{
+    return (code >> 8) & 0xFFFFu;
+}
+
+/* Act of the service channel is not 0. */
+static inline bool pd3120_data_error(uint32_t code)
+{
+    return ((code >> 24) & 1u) != 0;
+}
+
+/* His of the service channel is not 0. */
+static inline bool pd3120_general_error(uint32_t code)
+{
+    return ((code >> 25) & 1u) != 0;
+}
+
+/* The number of an answer as a sentence. Never null. */
+static inline const char *pd3120_reason(uint32_t code)
+{
+    switch (pd3120_number(code)) {
+    case PD3120_DONE: return "The call is done.";
+    case PD3120_BEYOND: return "The SWNo is above $11F.";
+    case PD3120_UNLISTED: return "The SWNo has no register.";
+    case PD3120_NOT_WRITABLE: return "The register is read only.";
+    case PD3120_WRONG_LENGTH: return "The register has another length.";
+    case PD3120_BUFFER_TOO_SHORT: return "The buffer is shorter than the register.";
+    case PD3120_NOT_ENABLED: return "The register is protected and WriteEnable is FALSE.";
+    case PD3120_NOT_ALLOWED: return "The register does not allow the value.";
+    case PD3120_NO_CHANNEL: return "The channel is not from 1 to 16.";
+    case PD3120_NOT_FINITE: return "The current is not finite.";
+    case PD3120_IMAGE_LENGTH: return "The setup image does not have 717 bytes.";
+    case PD3120_IMAGE_COUNTS: return "A count byte of the setup image is wrong.";
+    case PD3120_IMAGE_SUM: return "The sum of the setup image is wrong.";
+    case PD3120_IMAGE_VALUES: return "The setup image has a value that is not allowed.";
+    case PD3120_NO_ROOM: return "The buffer is shorter than 717 bytes.";
+    case PD3120_BAD_MODULE: return "The module is null or not aligned.";
+    case PD3120_BAD_BUFFER: return "The buffer is null or overlaps the module.";
+    default: return "The number is none of the library's.";
+    }
+}
+
+/* ---- The proved functions ---- */
+
+/*
+ * Powers the box up from a setup image.
+ * Answers number 0, or 10 to 13.
+ * Changes the whole module: to the box of the image, or of all-zero settings where it is refused.
+ */
+uint32_t pd3120_power_up(pd3120_module *module, const uint8_t *image, size_t length);
+
+/*
+ * Stores the kept values as a setup image.
+ * Answers number 0 and length 717, or number 14.
+ * Changes the first 717 bytes of the buffer, nothing where it is refused.
+ */
+uint32_t pd3120_store(const pd3120_module *module, uint8_t *buffer, size_t length);
+
+/*
+ * Wire read of a register.
+ * Answers number 0 and the register's length, or number 1, 2 or 5; and the two error bits.
+ * Changes as many bytes of the buffer as the length answered. In the box, the watchdog starts again
+ * (service Act bit 3 cleared, WDTimer := WDPreset), and reading CommonError or a digital channel's
+ * ChError acknowledges it. Where it is refused, only the watchdog changes.
+ */
+uint32_t pd3120_read(pd3120_module *module, uint16_t swno, uint8_t *buffer, size_t length);
+
+/*
+ * Wire write of a register.
+ * Answers number 0, or 1 to 4, 6 or 7; and the two error bits.
+ * Changes what the register's rules say, and starts the watchdog again as a read does. Where it is
+ * refused, only the watchdog changes.
+ */
+uint32_t pd3120_write(pd3120_module *module, uint16_t swno, const uint8_t *bytes, size_t length);
+
+/*
+ * The level on a channel is sampled. A change from off to on adds 1 to its Counter.
+ * Answers number 0 or 8.
+ * Changes that channel, nothing where it is refused or the channel's input is simulated.
+ */
+uint32_t pd3120_level(pd3120_module *module, uint8_t channel, bool on);
+
+/*
+ * The load current of a channel is measured. Above 2 A it trips.
+ * Answers number 0, 8 or 9.
+ * Changes that channel, nothing where it is refused.
+ */
+uint32_t pd3120_current(pd3120_module *module, uint8_t channel, float amperes);
+
+/* 1/32 s passes. Changes the module. */
+void pd3120_tick(pd3120_module *module);
+
+/* Whether a channel drives its terminal; false outside 1 to 16. Changes nothing. */
+bool pd3120_output(const pd3120_module *module, uint8_t channel);
+
+/*
+ * ---- The checked calls ----
+ *
+ * Each answers PD3120_BAD_MODULE or PD3120_BAD_BUFFER and does nothing, or else is the call above.
+ */
+
+/* 0, or why the pointers are refused. */
+static inline uint32_t pd3120_check(const void *module, const void *buffer, size_t length)
+{
+    uintptr_t box = (uintptr_t)module;
+    uintptr_t first = (uintptr_t)buffer;
+
+    if (module == NULL || box % PD3120_MODULE_ALIGN != 0)
+        return PD3120_BAD_MODULE;
+    if (length == 0)
+        return PD3120_DONE;
+    /* The differences are unsigned: the negative one is a very large number. */
+    if (buffer == NULL || first - box < PD3120_MODULE_SIZE || box - first < length)
+        return PD3120_BAD_BUFFER;
+    return PD3120_DONE;
+}
+
+/* The buffer, or a byte that is never used in the place of no buffer. */
+static inline uint8_t *pd3120_lent(uint8_t *buffer)
+{
+    static uint8_t none;
+    return buffer == NULL ? &none : buffer;
+}
+
+static inline const uint8_t *pd3120_given(const uint8_t *bytes)
+{
+    static const uint8_t none = 0;
+    return bytes == NULL ? &none : bytes;
+}
+
+static inline uint32_t pd3120_checked_power_up(pd3120_module *module, const uint8_t *image, size_t length)
+{
+    uint32_t refusal = pd3120_check(module, image, length);
+    return refusal != PD3120_DONE ? refusal : pd3120_power_up(module, pd3120_given(image), length);
+}
+
+static inline uint32_t pd3120_checked_store(const pd3120_module *module, uint8_t *buffer, size_t length)
+{
+    uint32_t refusal = pd3120_check(module, buffer, length);
+    return refusal != PD3120_DONE ? refusal : pd3120_store(module, pd3120_lent(buffer), length);
+}
+
+static inline uint32_t pd3120_checked_read(pd3120_module *module, uint16_t swno, uint8_t *buffer, size_t length)
+{
+    uint32_t refusal = pd3120_check(module, buffer, length);
+    return refusal != PD3120_DONE ? refusal : pd3120_read(module, swno, pd3120_lent(buffer), length);
+}
+
+static inline uint32_t pd3120_checked_write(pd3120_module *module, uint16_t swno, const uint8_t *bytes, size_t length)
+{
+    uint32_t refusal = pd3120_check(module, bytes, length);
+    return refusal != PD3120_DONE ? refusal : pd3120_write(module, swno, pd3120_given(bytes), length);
+}
+
+static inline uint32_t pd3120_checked_level(pd3120_module *module, uint8_t channel, bool on)
+{
+    uint32_t refusal = pd3120_check(module, NULL, 0);
+    return refusal != PD3120_DONE ? refusal : pd3120_level(module, channel, on);
+}
+
+static inline uint32_t pd3120_checked_current(pd3120_module *module, uint8_t channel, float amperes)
+{
+    uint32_t refusal = pd3120_check(module, NULL, 0);
+    return refusal != PD3120_DONE ? refusal : pd3120_current(module, channel, amperes);
+}
+
+/* Answers number 0 where the tick has run. */
+static inline uint32_t pd3120_checked_tick(pd3120_module *module)
+{
+    uint32_t refusal = pd3120_check(module, NULL, 0);
+    if (refusal == PD3120_DONE)
+        pd3120_tick(module);
+    return refusal;
+}
+
+/* Answers number 0 where *on is now the channel's Output. */
+static inline uint32_t pd3120_checked_output(const pd3120_module *module, uint8_t channel, bool *on)
+{
+    uint32_t refusal = pd3120_check(module, on, sizeof *on);
+    if (refusal == PD3120_DONE)
+        *on = pd3120_output(module, channel);
+    return refusal;
+}
+
+#ifdef __cplusplus
+}
+#endif
+
+#endif
