@@ -2,10 +2,13 @@
 //! the top of `src/bin/play.rs`.
 
 mod call;
+mod device;
+mod reply;
 
 pub use call::{Call, Why};
+pub use device::Device;
+pub use reply::Reply;
 
-use crate::ChannelBox;
 use std::io::{self, BufRead, Write};
 
 const LONGEST_LINE: usize = 16 * 1024;
@@ -34,26 +37,29 @@ fn next_line(input: &mut impl BufRead, line: &mut Vec<u8>) -> io::Result<bool> {
 }
 
 /// The line to print for a line of the script, if any.
-fn answer(device: &mut ChannelBox, line: &[u8], line_number: u64) -> Option<String> {
+fn answer(device: &mut impl Device, line: &[u8], line_number: u64) -> Option<String> {
     let parsed = if line.len() > LONGEST_LINE {
         Err(Why::LineTooLong)
     } else {
         Call::parse(line)
     };
     match parsed {
-        Ok(call) => call.map(|call| call.make(device)),
+        Ok(call) => call.map(|call| call.make(device).to_string()),
         Err(why) => Some(format!("error {line_number}: {why}")),
     }
 }
 
 /// Plays a script on a box and writes a line a call.
-pub fn play(mut input: impl BufRead, mut output: impl Write) -> io::Result<()> {
-    let mut device = ChannelBox::default();
+pub fn play(
+    device: &mut impl Device,
+    mut input: impl BufRead,
+    mut output: impl Write,
+) -> io::Result<()> {
     let mut line = Vec::new();
     let mut line_number = 0;
     while next_line(&mut input, &mut line)? {
         line_number += 1;
-        if let Some(answer) = answer(&mut device, &line, line_number) {
+        if let Some(answer) = answer(device, &line, line_number) {
             writeln!(output, "{answer}")?;
         }
     }
@@ -63,10 +69,12 @@ pub fn play(mut input: impl BufRead, mut output: impl Write) -> io::Result<()> {
 #[cfg(test)]
 mod tests {
     use super::*;
+    use crate::ChannelBox;
 
     fn played(script: impl AsRef<[u8]>) -> Vec<String> {
         let mut output = Vec::new();
-        play(script.as_ref(), &mut output).expect("no failure in memory");
+        let mut device = ChannelBox::default();
+        play(&mut device, script.as_ref(), &mut output).expect("no failure in memory");
         let output = String::from_utf8(output).expect("plain characters");
         output.lines().map(str::to_string).collect()
     }

@@ -36,15 +36,17 @@
 //! - `not 0 or 1`: for a level
 
 use reference_box::player::play;
+use reference_box::ChannelBox;
 use std::fs::File;
 use std::io::{self, BufReader, BufWriter};
 use std::process::ExitCode;
 
 fn run(file: Option<&String>) -> io::Result<()> {
+    let mut device = ChannelBox::default();
     let output = BufWriter::new(io::stdout().lock());
     match file {
-        Some(path) => play(BufReader::new(File::open(path)?), output),
-        None => play(io::stdin().lock(), output),
+        Some(path) => play(&mut device, BufReader::new(File::open(path)?), output),
+        None => play(&mut device, io::stdin().lock(), output),
     }
 }
 

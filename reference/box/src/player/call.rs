@@ -1,6 +1,7 @@
 //! A call as a line of a script.
 
-use crate::{Answer, ChannelBox};
+use super::device::Device;
+use super::reply::{hexadecimal, Reply};
 use std::fmt;
 
 const LONGEST_STORE: u64 = 4096;
@@ -79,27 +80,27 @@ impl Call {
         }
     }
 
-    /// Makes the call and gives the line that it answers.
-    pub fn make(self, device: &mut ChannelBox) -> String {
+    /// Makes the call on a box.
+    pub fn make(&self, device: &mut impl Device) -> Reply {
         match self {
-            Call::Power(image) => format!("power {}", device.power_up(&image)),
+            Call::Power(image) => Reply::Power(device.power_up(image)),
             Call::Store(length) => {
-                let mut buffer = vec![LENT; length];
+                let mut buffer = vec![LENT; *length];
                 let (number, length) = device.store(&mut buffer);
-                format!("store {number} {length} {}", hexadecimal(&buffer))
+                Reply::Store(number, length, buffer)
             }
-            Call::Read(swno, mut buffer) => {
-                let answer = device.read(swno, &mut buffer);
-                format!("read {} {}", numbers(answer), hexadecimal(&buffer))
+            Call::Read(swno, lent) => {
+                let mut buffer = lent.clone();
+                Reply::Read(device.read(*swno, &mut buffer), buffer)
             }
-            Call::Write(swno, value) => format!("write {}", numbers(device.write(swno, &value))),
-            Call::Level(channel, on) => format!("level {}", device.level(channel, on)),
-            Call::Current(channel, real) => format!("current {}", device.current(channel, real)),
+            Call::Write(swno, value) => Reply::Write(device.write(*swno, value)),
+            Call::Level(channel, on) => Reply::Level(device.level(*channel, *on)),
+            Call::Current(channel, real) => Reply::Current(device.current(*channel, *real)),
             Call::Tick(count) => {
-                for _ in 0..count {
+                for _ in 0..*count {
                     device.tick();
                 }
-                "tick 0".to_string()
+                Reply::Tick
             }
         }
     }
@@ -220,22 +221,6 @@ fn bit(word: &[u8]) -> Result<bool, Why> {
         b"1" => Ok(true),
         _ => Err(Why::NotZeroOrOne),
     }
-}
-
-fn hexadecimal(bytes: &[u8]) -> String {
-    if bytes.is_empty() {
-        return "-".to_string();
-    }
-    bytes.iter().map(|byte| format!("{byte:02x}")).collect()
-}
-
-fn numbers(answer: Answer) -> String {
-    let data_error = u8::from(answer.data_error);
-    let general_error = u8::from(answer.general_error);
-    format!(
-        "{} {} {data_error} {general_error}",
-        answer.number, answer.length
-    )
 }
 
 #[cfg(test)]

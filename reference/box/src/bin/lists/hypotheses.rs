@@ -54,7 +54,7 @@ fn named_by_writes(image: &[u8], channel: u8, list: &[Call]) -> Vec<u8> {
                 }
             }
             _ => {
-                call.clone().make(&mut device);
+                call.make(&mut device);
             }
         }
     }

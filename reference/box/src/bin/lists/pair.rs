@@ -214,7 +214,7 @@ fn strangers(channel: u8, image: &[u8], list: &[Call]) -> Vec<u8> {
     };
     look(&device);
     for call in list {
-        call.clone().make(&mut device);
+        call.make(&mut device);
         look(&device);
     }
     let digital = 1..=CHANNELS as u8;

@@ -2,6 +2,7 @@ use super::*;
 use crate::pair::Pair;
 use crate::record::Record;
 use reference_box::player;
+use reference_box::ChannelBox;
 
 const SEED: u64 = 77;
 
@@ -20,7 +21,8 @@ fn text(bytes: Vec<u8>) -> String {
 
 fn played(script: &str) -> String {
     let mut answers = Vec::new();
-    player::play(script.as_bytes(), &mut answers).expect("no failure in memory");
+    let mut device = ChannelBox::default();
+    player::play(&mut device, script.as_bytes(), &mut answers).expect("no failure in memory");
     text(answers)
 }
 

@@ -14,7 +14,7 @@ fn numbers(pair: &Pair, channels: &[u8]) -> Vec<String> {
     device.power_up(&pair.image);
     let mut numbers = Vec::new();
     for call in &pair.second {
-        let answer = call.clone().make(&mut device);
+        let answer = call.make(&mut device).to_string();
         if is_for(call, channels) {
             numbers.extend(answer.split(' ').nth(1).map(str::to_string));
         }

@@ -5,9 +5,7 @@
 //! feedback, currents, errors, images, refusals, reset, ends (of ranges), save
 //! (the ten-hour save), and mixed, which is all of them and the default.
 
-mod kinds;
-
-use kinds::Kind;
+use reference_box::generator::kinds::{self, Kind};
 use std::io::{self, Write};
 use std::process::ExitCode;
 

@@ -1,0 +1,47 @@
+//! What a script is played on.
+
+use crate::reals::Real;
+use crate::{Answer, ChannelBox};
+
+/// A channel box as a player calls it: this model, or an implementation that
+/// is compared with it. A number is document 01's, 0 where the call is done.
+pub trait Device {
+    fn power_up(&mut self, image: &[u8]) -> u8;
+    /// Gives its number and length.
+    fn store(&self, buffer: &mut [u8]) -> (u8, usize);
+    fn read(&mut self, swno: u16, buffer: &mut [u8]) -> Answer;
+    fn write(&mut self, swno: u16, bytes: &[u8]) -> Answer;
+    fn level(&mut self, channel: u8, on: bool) -> u8;
+    fn current(&mut self, channel: u8, amperes: Real) -> u8;
+    fn tick(&mut self);
+}
+
+impl Device for ChannelBox {
+    fn power_up(&mut self, image: &[u8]) -> u8 {
+        ChannelBox::power_up(self, image)
+    }
+
+    fn store(&self, buffer: &mut [u8]) -> (u8, usize) {
+        ChannelBox::store(self, buffer)
+    }
+
+    fn read(&mut self, swno: u16, buffer: &mut [u8]) -> Answer {
+        ChannelBox::read(self, swno, buffer)
+    }
+
+    fn write(&mut self, swno: u16, bytes: &[u8]) -> Answer {
+        ChannelBox::write(self, swno, bytes)
+    }
+
+    fn level(&mut self, channel: u8, on: bool) -> u8 {
+        ChannelBox::level(self, channel, on)
+    }
+
+    fn current(&mut self, channel: u8, amperes: Real) -> u8 {
+        ChannelBox::current(self, channel, amperes)
+    }
+
+    fn tick(&mut self) {
+        ChannelBox::tick(self);
+    }
+}
