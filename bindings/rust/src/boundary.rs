@@ -1,0 +1,97 @@
+//! The C boundary: the exported functions of `crates/pd3120_c`, each made safe.
+//! Every `unsafe` of this package stands here.
+//!
+//! What the blocks below rest on, besides what each says of itself:
+//!
+//! - The declarations are those of `crates/pd3120_c/src/lib.rt`. A reference
+//!   goes over as a pointer, a slice as a pointer and its length, a number, a
+//!   Real and a bool as themselves.
+//! - The functions are proved to ask nothing of a caller beyond valid
+//!   references, to return, to hold no reference past their return, and to
+//!   keep nothing anywhere else.
+//! - A Rust slice's pointer is valid for its length and never null, also where
+//!   the slice is empty.
+
+use std::mem::MaybeUninit;
+
+/// A module has 1504 bytes, in words of the alignment that it asks for.
+const WORDS: usize = 376;
+
+/// The memory of a module. It begins as zeros, which are a value of every field
+/// of a module, and after that only the library writes it, so that it always
+/// holds a valid module. What the library leaves in the padding between fields
+/// is not known, so no word is ever looked at here.
+#[derive(Clone)]
+#[repr(C)]
+pub struct Module([MaybeUninit<u32>; WORDS]);
+
+extern "C" {
+    fn pd3120_power_up(m: *mut Module, image: *const u8, length: usize) -> u32;
+    fn pd3120_store(m: *const Module, buffer: *mut u8, length: usize) -> u32;
+    fn pd3120_read(m: *mut Module, swno: u16, buffer: *mut u8, length: usize) -> u32;
+    fn pd3120_write(m: *mut Module, swno: u16, bytes: *const u8, length: usize) -> u32;
+    fn pd3120_level(m: *mut Module, channel: u8, on: bool) -> u32;
+    fn pd3120_current(m: *mut Module, channel: u8, amperes: f32) -> u32;
+    fn pd3120_tick(m: *mut Module);
+    fn pd3120_output(m: *const Module, channel: u8) -> bool;
+}
+
+impl Module {
+    /// The module that an image powers up to, and the code of the answer.
+    pub fn powered_up(image: &[u8]) -> (Module, u32) {
+        let mut module = Module([MaybeUninit::new(0); WORDS]);
+        let code = module.power_up(image);
+        (module, code)
+    }
+
+    pub fn power_up(&mut self, image: &[u8]) -> u32 {
+        // SAFETY: `self` is a valid module that nobody else can reach during the
+        // call; the image is a slice that is only read.
+        unsafe { pd3120_power_up(self, image.as_ptr(), image.len()) }
+    }
+
+    pub fn store(&self, buffer: &mut [u8]) -> u32 {
+        // SAFETY: `self` is a valid module that is only read; nobody else can
+        // reach the buffer during the call, and it cannot lie within `self`.
+        unsafe { pd3120_store(self, buffer.as_mut_ptr(), buffer.len()) }
+    }
+
+    pub fn read(&mut self, swno: u16, buffer: &mut [u8]) -> u32 {
+        // SAFETY: `self` is a valid module, and nobody else can reach it or the
+        // buffer during the call; the two cannot overlap.
+        unsafe { pd3120_read(self, swno, buffer.as_mut_ptr(), buffer.len()) }
+    }
+
+    pub fn write(&mut self, swno: u16, bytes: &[u8]) -> u32 {
+        // SAFETY: `self` is a valid module that nobody else can reach during the
+        // call; the bytes are a slice that is only read.
+        unsafe { pd3120_write(self, swno, bytes.as_ptr(), bytes.len()) }
+    }
+
+    pub fn level(&mut self, channel: u8, on: bool) -> u32 {
+        // SAFETY: `self` is a valid module that nobody else can reach during the
+        // call; any channel number is a value that the function takes.
+        unsafe { pd3120_level(self, channel, on) }
+    }
+
+    pub fn current(&mut self, channel: u8, amperes: f32) -> u32 {
+        // SAFETY: `self` is a valid module that nobody else can reach during the
+        // call; any channel number and any Real are values that the function takes.
+        unsafe { pd3120_current(self, channel, amperes) }
+    }
+
+    pub fn tick(&mut self) {
+        // SAFETY: `self` is a valid module that nobody else can reach during the
+        // call.
+        unsafe { pd3120_tick(self) }
+    }
+
+    pub fn output(&self, channel: u8) -> bool {
+        // SAFETY: `self` is a valid module that is only read; any channel number
+        // is a value that the function takes, and it answers 0 or 1.
+        unsafe { pd3120_output(self, channel) }
+    }
+}
+
+#[cfg(test)]
+mod layout;

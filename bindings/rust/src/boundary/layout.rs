@@ -1,0 +1,126 @@
+//! The memory of a module is as large as the library's, and aligned as it asks.
+
+// The copy below is there for its layout; most of its fields are never read.
+#![allow(dead_code)]
+
+use super::Module;
+use std::mem::{align_of, size_of};
+
+/// A copy of the structs of `crates/model/src/lib.rt`.
+#[repr(C)]
+struct Config([u8; 4]);
+
+#[repr(C)]
+struct Timers {
+    out: i32,
+    feedback: i32,
+}
+
+#[repr(C)]
+struct Errors {
+    act: [bool; 7],
+    his: [bool; 7],
+}
+
+#[repr(C)]
+struct Kept {
+    counter: i32,
+    operating: u32,
+    user: [u8; 4],
+}
+
+#[repr(C)]
+struct Channel {
+    config: Config,
+    flags: [bool; 5],
+    timers: Timers,
+    presets: Timers,
+    currents: [f32; 3],
+    errors: Errors,
+    counter: i32,
+    operating: u32,
+    user: [u8; 4],
+    reals: [u8; 8],
+    maintenance: [u8; 4],
+    kept: Kept,
+}
+
+#[repr(C)]
+struct Shared {
+    timer: i32,
+    config: Config,
+    preset: i32,
+    enabled: bool,
+    saving: u32,
+}
+
+#[repr(C)]
+struct Service {
+    watchdog: i32,
+    act: [bool; 3],
+    his: [bool; 3],
+}
+
+#[repr(C)]
+struct Copied {
+    shared: Shared,
+    service: Service,
+    channels: [Channel; 16],
+}
+
+fn look(module: &Module) -> &Copied {
+    // SAFETY: the first test shows that size and alignment are the same; the
+    // library leaves a valid module, whose fields are those of the copy.
+    unsafe { &*(module as *const Module).cast::<Copied>() }
+}
+
+#[test]
+fn a_module_has_1504_bytes_aligned_to_4() {
+    assert_eq!(size_of::<Module>(), 1504);
+    assert_eq!(size_of::<Copied>(), size_of::<Module>());
+    assert_eq!(align_of::<Copied>(), align_of::<Module>());
+}
+
+/// The first and the last field of the module lie where the copy has them.
+#[test]
+fn the_library_uses_the_memory_from_its_first_field_to_its_last() {
+    let (mut module, _) = Module::powered_up(&[]);
+    module.tick();
+    assert_eq!(look(&module).shared.timer, 8);
+    module.write(0x0D, &[1]);
+    assert!(look(&module).shared.enabled);
+    module.write(0x105, &[1, 2, 3, 4]);
+    module.level(16, true);
+    let last = &look(&module).channels[15];
+    assert_eq!((last.counter, last.kept.user), (1, [1, 2, 3, 4]));
+}
+
+#[test]
+fn no_call_writes_outside_the_module() {
+    #[repr(C)]
+    struct Guarded {
+        before: [u32; 64],
+        module: Module,
+        after: [u32; 64],
+    }
+    let mut guarded = Guarded {
+        before: [0xA5A5_A5A5; 64],
+        module: Module::powered_up(&[]).0,
+        after: [0xA5A5_A5A5; 64],
+    };
+    let mut image = [0; 717];
+    guarded.module.store(&mut image);
+    guarded.module.power_up(&image);
+    for swno in 0..0x130 {
+        guarded.module.read(swno, &mut [0; 12]);
+        guarded.module.write(swno, &[0; 4]);
+    }
+    for channel in 0..18 {
+        guarded.module.level(channel, true);
+        guarded.module.current(channel, 3.0);
+        guarded.module.tick();
+        guarded.module.output(channel);
+    }
+    assert_eq!(guarded.before, [0xA5A5_A5A5; 64]);
+    assert_eq!(guarded.after, [0xA5A5_A5A5; 64]);
+}

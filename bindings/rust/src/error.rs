@@ -1,0 +1,150 @@
+//! Why a call is refused.
+
+use crate::ErrorBits;
+use std::fmt;
+
+/// The reasons to refuse a call, with the numbers of document 01, "Questions in
+/// order". A call is refused for the first that applies.
+#[derive(Clone, Copy, Debug, PartialEq, Eq, Hash)]
+#[repr(u8)]
+pub enum Refusal {
+    /// A wire call: the SWNo is above $11F.
+    Beyond = 1,
+    /// A wire call: no register is listed for the SWNo.
+    Unlisted = 2,
+    /// A write: the register is read only.
+    NotWritable = 3,
+    /// A write: the register has another length.
+    WrongLength = 4,
+    /// A read: the buffer is shorter than the register.
+    BufferTooShort = 5,
+    /// A write: the register is protected and WriteEnable is FALSE.
+    NotEnabled = 6,
+    /// A write: the register does not allow the value.
+    NotAllowed = 7,
+    /// A sample: the channel is not from 1 to 16.
+    NoChannel = 8,
+    /// A current: it is no finite Real.
+    NotFinite = 9,
+    /// Power-up: the image has not 717 bytes.
+    ImageLength = 10,
+    /// Power-up: a section's count byte is wrong.
+    ImageCounts = 11,
+    /// Power-up: the image's sum is wrong.
+    ImageSum = 12,
+    /// Power-up: a value in the image is not allowed.
+    ImageValues = 13,
+    /// Storing: the buffer is shorter than 717 bytes.
+    NoRoom = 14,
+}
+
+impl Refusal {
+    /// Every refusal, in the order of the numbers.
+    pub const ALL: [Refusal; 14] = [
+        Refusal::Beyond,
+        Refusal::Unlisted,
+        Refusal::NotWritable,
+        Refusal::WrongLength,
+        Refusal::BufferTooShort,
+        Refusal::NotEnabled,
+        Refusal::NotAllowed,
+        Refusal::NoChannel,
+        Refusal::NotFinite,
+        Refusal::ImageLength,
+        Refusal::ImageCounts,
+        Refusal::ImageSum,
+        Refusal::ImageValues,
+        Refusal::NoRoom,
+    ];
+
+    /// The refusal of a number, which is from 1 to 14.
+    pub fn numbered(number: u8) -> Option<Refusal> {
+        let index = usize::from(number).checked_sub(1)?;
+        Refusal::ALL.get(index).copied()
+    }
+
+    /// Document 01's number, from 1 to 14.
+    pub fn number(self) -> u8 {
+        self as u8
+    }
+
+    /// A plain sentence.
+    pub fn sentence(self) -> &'static str {
+        match self {
+            Refusal::Beyond => "the SWNo is above $11F",
+            Refusal::Unlisted => "there is no register with this SWNo",
+            Refusal::NotWritable => "the register can only be read",
+            Refusal::WrongLength => "the register has not as many bytes as were written",
+            Refusal::BufferTooShort => "the buffer is too short for the register",
+            Refusal::NotEnabled => "the register is protected, and WriteEnable is off",
+            Refusal::NotAllowed => "the register does not allow this value",
+            Refusal::NoChannel => "there is no such channel; they are numbered 1 to 16",
+            Refusal::NotFinite => "the current is not a finite number",
+            Refusal::ImageLength => "the setup image has not 717 bytes",
+            Refusal::ImageCounts => "a count byte of the setup image is wrong",
+            Refusal::ImageSum => "the sum of the setup image is wrong",
+            Refusal::ImageValues => "the setup image holds a value that is not allowed",
+            Refusal::NoRoom => "the buffer is too short for a setup image of 717 bytes",
+        }
+    }
+}
+
+impl fmt::Display for Refusal {
+    fn fmt(&self, formatter: &mut fmt::Formatter) -> fmt::Result {
+        formatter.write_str(self.sentence())
+    }
+}
+
+/// A refused call. Its buffer is untouched, and so is the box, but for what
+/// every wire call does (see [`Pd3120::read`](crate::Pd3120::read)) and for a
+/// refused power-up.
+#[derive(Clone, Copy, Debug, PartialEq, Eq)]
+pub struct Error {
+    /// Why the call is refused.
+    pub refusal: Refusal,
+    /// The two bits that a wire call answers even then; none for other calls.
+    pub bits: Option<ErrorBits>,
+}
+
+impl Error {
+    /// Document 01's number, from 1 to 14.
+    pub fn number(&self) -> u8 {
+        self.refusal.number()
+    }
+}
+
+impl fmt::Display for Error {
+    fn fmt(&self, formatter: &mut fmt::Formatter) -> fmt::Result {
+        write!(formatter, "refused by {}: {}", self.number(), self.refusal)
+    }
+}
+
+impl std::error::Error for Error {}
+
+#[cfg(test)]
+mod tests {
+    use super::*;
+    use std::collections::BTreeSet;
+
+    #[test]
+    fn each_number_from_1_to_14_has_a_refusal_and_a_sentence_of_its_own() {
+        let mut sentences = BTreeSet::new();
+        for number in 1..=14 {
+            let refusal = Refusal::numbered(number).expect("listed");
+            assert_eq!(refusal.number(), number);
+            assert!(sentences.insert(refusal.sentence()), "{number}");
+        }
+        assert_eq!(Refusal::numbered(0), None);
+        assert_eq!(Refusal::numbered(15), None);
+    }
+
+    #[test]
+    fn an_error_shows_its_number_and_sentence() {
+        let error = Error {
+            refusal: Refusal::ImageLength,
+            bits: None,
+        };
+        let shown = "refused by 10: the setup image has not 717 bytes";
+        assert_eq!(error.to_string(), shown);
+    }
+}

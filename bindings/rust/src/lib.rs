@@ -1,0 +1,159 @@
+//! The PD 3120 channel box, proved, as a safe Rust type.
+//!
+//! The box is the Rattle library of this repository: every call does what
+//! document 01 says, for any box, call and buffer, and this is proved. [`Pd3120`]
+//! reaches it through its C boundary. That this package declares the boundary as
+//! it is, no proof says; its tests and `tests/rust` compare it.
+//!
+//! `./pd3120 lib` builds the library's archive, which is linked in. PD3120_LIB
+//! can name another folder that has it.
+//!
+//! ```
+//! use pd3120::{Pd3120, Refusal};
+//!
+//! // No setup image yet: power-up is refused, and the box has all-zero settings.
+//! let refused = Pd3120::power_up(&[]).unwrap_err();
+//! assert_eq!(refused.refusal, Refusal::ImageLength);
+//! let mut module = Pd3120::default();
+//!
+//! // A pulse of the water meter on channel 4, and its Counter over the wire.
+//! module.level(4, true)?;
+//! module.level(4, false)?;
+//! let mut counter = [0; 4];
+//! let answer = module.read(0x42, &mut counter)?;
+//! assert_eq!((answer.length, i32::from_be_bytes(counter)), (4, 1));
+//! # Ok::<(), pd3120::Error>(())
+//! ```
+
+#![deny(unsafe_code)]
+#![warn(missing_docs)]
+
+#[allow(unsafe_code)]
+mod boundary;
+mod code;
+mod error;
+
+pub use error::{Error, Refusal};
+
+use boundary::Module;
+use std::fmt;
+
+/// The length of a setup image.
+pub const IMAGE_LENGTH: usize = 717;
+
+/// The two bits that every wire call answers, done or refused.
+#[derive(Clone, Copy, Debug, PartialEq, Eq)]
+pub struct ErrorBits {
+    /// DataError: Act of the service channel is not 0.
+    pub data_error: bool,
+    /// GeneralError: His of the service channel is not 0.
+    pub general_error: bool,
+}
+
+/// What a wire call that is done answers.
+#[derive(Clone, Copy, Debug, PartialEq, Eq)]
+pub struct Answer {
+    /// How many bytes of the buffer a read has filled; 0 for a write.
+    pub length: usize,
+    /// DataError and GeneralError.
+    pub bits: ErrorBits,
+}
+
+/// A PD 3120 channel box, powered up.
+///
+/// It is a plain value of 1504 bytes: it can be moved, cloned and sent to
+/// another thread, and nothing of it is held elsewhere.
+#[derive(Clone)]
+pub struct Pd3120 {
+    module: Module,
+}
+
+impl Pd3120 {
+    /// The box that a setup image powers up to.
+    ///
+    /// A refused image gives the box of all-zero settings on the hardware. Here
+    /// that box is [`Pd3120::default`]:
+    ///
+    /// ```
+    /// # use pd3120::Pd3120;
+    /// # let image = [0; 717];
+    /// let module = Pd3120::power_up(&image).unwrap_or_default();
+    /// ```
+    pub fn power_up(image: &[u8]) -> Result<Pd3120, Error> {
+        let (module, code) = Module::powered_up(image);
+        code::plain(code)?;
+        Ok(Pd3120 { module })
+    }
+
+    /// Powers this box up again. A refused image leaves it as
+    /// [`Pd3120::default`].
+    pub fn power_up_again(&mut self, image: &[u8]) -> Result<(), Error> {
+        code::plain(self.module.power_up(image))?;
+        Ok(())
+    }
+
+    /// Puts the kept values into the first 717 bytes of a buffer, as a setup
+    /// image, and gives that length.
+    pub fn store(&self, buffer: &mut [u8]) -> Result<usize, Error> {
+        code::plain(self.module.store(buffer))
+    }
+
+    /// The kept values as a setup image.
+    pub fn image(&self) -> [u8; IMAGE_LENGTH] {
+        let mut image = [0; IMAGE_LENGTH];
+        self.store(&mut image).expect("717 bytes are enough");
+        image
+    }
+
+    /// A wire read of a register into the front of a buffer.
+    ///
+    /// Every wire call, refused or not, clears Act bit 3 of the service channel
+    /// and sets WDTimer to WDPreset; this is all that a refused one changes.
+    pub fn read(&mut self, swno: u16, buffer: &mut [u8]) -> Result<Answer, Error> {
+        code::wire(self.module.read(swno, buffer))
+    }
+
+    /// A wire write of all bytes of a register.
+    pub fn write(&mut self, swno: u16, bytes: &[u8]) -> Result<Answer, Error> {
+        code::wire(self.module.write(swno, bytes))
+    }
+
+    /// A level of a channel's terminal.
+    pub fn level(&mut self, channel: u8, on: bool) -> Result<(), Error> {
+        code::plain(self.module.level(channel, on))?;
+        Ok(())
+    }
+
+    /// A load current of a channel, in amperes.
+    pub fn current(&mut self, channel: u8, amperes: f32) -> Result<(), Error> {
+        code::plain(self.module.current(channel, amperes))?;
+        Ok(())
+    }
+
+    /// A tick: 1/32 s passes.
+    pub fn tick(&mut self) {
+        self.module.tick();
+    }
+
+    /// Whether a channel's terminal is driven; FALSE for a number outside 1 to
+    /// 16.
+    pub fn output(&self, channel: u8) -> bool {
+        self.module.output(channel)
+    }
+}
+
+/// The box of all-zero settings, which every refused power-up gives.
+impl Default for Pd3120 {
+    fn default() -> Pd3120 {
+        // An empty image is refused, by number 10.
+        let (module, _) = Module::powered_up(&[]);
+        Pd3120 { module }
+    }
+}
+
+/// Shows no internals: the box is known by its calls.
+impl fmt::Debug for Pd3120 {
+    fn fmt(&self, formatter: &mut fmt::Formatter) -> fmt::Result {
+        formatter.debug_struct("Pd3120").finish_non_exhaustive()
+    }
+}

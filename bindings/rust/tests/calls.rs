@@ -1,0 +1,125 @@
+//! Calls that are done, through the whole wrapper.
+
+mod common;
+
+use common::{shown, used};
+use pd3120::{Pd3120, IMAGE_LENGTH};
+use std::mem::size_of;
+use std::thread;
+
+fn word(module: &mut Pd3120, swno: u16) -> [u8; 4] {
+    let mut bytes = [0; 4];
+    let answer = module.read(swno, &mut bytes).expect("a listed register");
+    assert_eq!(answer.length, 4);
+    bytes
+}
+
+#[test]
+fn a_box_is_its_module_and_nothing_else() {
+    assert_eq!(size_of::<Pd3120>(), 1504);
+}
+
+#[test]
+fn pulses_are_counted() {
+    let mut module = Pd3120::default();
+    for on in [true, false, true, false, true] {
+        module.level(4, on).expect("channel 4");
+    }
+    assert_eq!(word(&mut module, 0x42), [0, 0, 0, 3]);
+    assert_eq!(word(&mut module, 0x52), [0; 4]);
+}
+
+#[test]
+fn a_read_fills_the_front_of_the_buffer_and_leaves_the_rest() {
+    let mut buffer = [0xA5; 5];
+    let answer = Pd3120::default().read(0, &mut buffer).expect("done");
+    assert_eq!((answer.length, buffer), (2, [0x01, 0x1F, 0xA5, 0xA5, 0xA5]));
+    assert!(answer.bits.general_error && !answer.bits.data_error);
+}
+
+#[test]
+fn a_write_answers_no_length_and_is_read_back() {
+    let mut module = Pd3120::default();
+    let answer = module.write(0x12, &[0x80, 0, 0, 1]).expect("Counter");
+    assert_eq!(answer.length, 0);
+    assert_eq!(word(&mut module, 0x12), [0x80, 0, 0, 1]);
+}
+
+#[test]
+fn a_current_goes_over_as_its_bits() {
+    let mut module = Pd3120::default();
+    for amperes in [0.0, -0.0, 1.5, f32::MIN_POSITIVE / 2.0, -f32::MAX] {
+        module.current(3, amperes).expect("finite");
+        assert_eq!(word(&mut module, 0x33), amperes.to_be_bytes());
+    }
+}
+
+#[test]
+fn a_current_above_two_amperes_trips_the_output() {
+    let mut module = used();
+    assert!(module.output(4));
+    module.current(4, 2.0).expect("finite");
+    assert!(module.output(4));
+    module.current(4, f32::from_bits(0x4000_0001)).expect("finite");
+    assert!(!module.output(4));
+    assert_eq!(word(&mut module, 0x4F)[2] & 0x40, 0x40);
+}
+
+#[test]
+fn a_channel_that_is_none_has_no_output() {
+    let module = used();
+    for channel in [0, 17, 20, 255] {
+        assert!(!module.output(channel));
+    }
+}
+
+#[test]
+fn a_stored_image_powers_up_and_is_stored_again_as_the_same_bytes() {
+    let image = used().image();
+    assert_eq!(image[10 + 3 * 44..][..4], [0, 0x10, 5, 0]);
+    let mut again = Pd3120::power_up(&image).expect("stored by a box");
+    assert_eq!(again.image(), image);
+    let mut longer = [0xA5; IMAGE_LENGTH + 3];
+    assert_eq!(again.store(&mut longer), Ok(IMAGE_LENGTH));
+    assert_eq!(longer[..IMAGE_LENGTH], image);
+    assert_eq!(longer[IMAGE_LENGTH..], [0xA5; 3]);
+    again.tick();
+    again.power_up_again(&image).expect("stored by a box");
+    let first = Pd3120::power_up(&image).expect("stored by a box");
+    assert_eq!(shown(&again), shown(&first));
+}
+
+#[test]
+fn a_tick_advances_free_run_timer_by_8() {
+    let mut module = Pd3120::default();
+    module.tick();
+    module.tick();
+    assert_eq!(word(&mut module, 0x07), [0, 0, 0, 16]);
+}
+
+#[test]
+fn a_clone_goes_its_own_way() {
+    let module = used();
+    let mut other = module.clone();
+    assert_eq!(shown(&other), shown(&module));
+    other.level(4, false).expect("channel 4");
+    assert_ne!(shown(&other), shown(&module));
+    assert_eq!(shown(&module), shown(&used()));
+}
+
+#[test]
+fn a_box_can_be_sent_to_another_thread() {
+    let mut module = used();
+    let there = thread::spawn(move || {
+        module.tick();
+        module
+    });
+    let mut here = used();
+    here.tick();
+    assert_eq!(shown(&there.join().expect("no panic")), shown(&here));
+}
+
+#[test]
+fn debug_shows_no_internals() {
+    assert_eq!(format!("{:?}", used()), "Pd3120 { .. }");
+}

@@ -1,0 +1,44 @@
+//! What the tests share: everything that a box shows of itself.
+
+use pd3120::{Answer, Error, Pd3120, IMAGE_LENGTH};
+
+type Read = (Result<Answer, Error>, [u8; 12]);
+
+#[derive(Debug, PartialEq)]
+pub struct Shown {
+    image: [u8; IMAGE_LENGTH],
+    registers: Vec<Read>,
+    outputs: Vec<bool>,
+}
+
+/// Every register, the image and the outputs. Reading acknowledges errors, so a
+/// clone is read.
+pub fn shown(module: &Pd3120) -> Shown {
+    let mut copy = module.clone();
+    Shown {
+        image: module.image(),
+        registers: (0..=0x120).map(|swno| read(&mut copy, swno)).collect(),
+        outputs: (0..=17).map(|channel| module.output(channel)).collect(),
+    }
+}
+
+fn read(module: &mut Pd3120, swno: u16) -> Read {
+    let mut buffer = [0xA5; 12];
+    let answer = module.read(swno, &mut buffer);
+    (answer, buffer)
+}
+
+/// A box with something in it: channel 4 is an output that is on, with an error.
+pub fn used() -> Pd3120 {
+    let mut module = Pd3120::default();
+    module.write(0x0D, &[1]).expect("WriteEnable");
+    module.write(0x09, &[0, 0x10, 0, 0]).expect("watchdog off");
+    module.write(0x49, &[0, 0x10, 5, 0]).expect("ChConfig");
+    module.write(0x40, &[0x80]).expect("FlagReg");
+    module.write(0x0D, &[0]).expect("WriteEnable");
+    for on in [true, false, true] {
+        module.level(4, on).expect("channel 4");
+        module.tick();
+    }
+    module
+}

@@ -1,0 +1,117 @@
+//! Every refusal by its number, and what a refused call leaves.
+
+mod common;
+
+use common::{shown, used};
+use pd3120::{Error, Pd3120};
+
+const LENT: [u8; 16] = [0xA5; 16];
+
+/// A read that must be refused, with its buffer untouched.
+fn refused_read(module: &mut Pd3120, swno: u16, length: usize) -> Error {
+    let mut buffer = LENT;
+    let error = module.read(swno, &mut buffer[..length]).unwrap_err();
+    assert_eq!(buffer, LENT);
+    error
+}
+
+fn refused_write(module: &mut Pd3120, swno: u16, bytes: &[u8]) -> Error {
+    module.write(swno, bytes).unwrap_err()
+}
+
+#[test]
+fn each_wire_call_is_refused_by_its_number_and_keeps_its_two_bits() {
+    let mut module = used();
+    let before = shown(&module);
+    let refused = [
+        (1, refused_read(&mut module, 0x120, 16)),
+        (1, refused_write(&mut module, 0xFFFF, &[])),
+        (2, refused_read(&mut module, 0x01, 16)),
+        (2, refused_write(&mut module, 0x1E, &[0])),
+        (3, refused_write(&mut module, 0x1F, &[0; 4])),
+        (4, refused_write(&mut module, 0x10, &[0; 2])),
+        (4, refused_write(&mut module, 0x10, &[])),
+        (5, refused_read(&mut module, 0x12, 3)),
+        (5, refused_read(&mut module, 0x12, 0)),
+        (6, refused_write(&mut module, 0x19, &[0; 4])),
+        (7, refused_write(&mut module, 0x0D, &[2])),
+    ];
+    for (number, error) in refused {
+        assert_eq!(error.number(), number, "{error}");
+        let bits = error.bits.expect("a wire call");
+        assert!(bits.general_error, "His has the reset of power-up");
+        assert!(bits.data_error, "channel 4 has an error");
+    }
+    assert_eq!(shown(&module), before);
+}
+
+#[test]
+fn a_refused_wire_call_clears_the_watchdogs_bit_all_the_same() {
+    let mut module = Pd3120::default();
+    module.tick();
+    let mut errors = [0; 12];
+    let error = module.read(0x0F, &mut errors[..11]).unwrap_err();
+    assert!(!error.bits.expect("a wire call").data_error);
+    module.tick();
+    module.read(0x0F, &mut errors).expect("done");
+    assert_eq!(errors[0], 0x88, "His: power-up and a watchdog that ran out");
+}
+
+#[test]
+fn each_sample_is_refused_by_its_number() {
+    let mut module = used();
+    let before = shown(&module);
+    let refused = [
+        (8, module.level(0, true)),
+        (8, module.level(17, false)),
+        (8, module.current(255, 1.0)),
+        (8, module.current(0, f32::NAN)),
+        (9, module.current(1, f32::NAN)),
+        (9, module.current(16, f32::NEG_INFINITY)),
+    ];
+    for (number, answer) in refused {
+        let error = answer.unwrap_err();
+        assert_eq!((error.number(), error.bits), (number, None));
+    }
+    assert_eq!(shown(&module), before);
+}
+
+#[test]
+fn storing_is_refused_without_room_and_leaves_the_buffer() {
+    let module = used();
+    for length in [0, 1, 716] {
+        let mut buffer = vec![0xA5; length];
+        let error = module.store(&mut buffer).unwrap_err();
+        assert_eq!((error.number(), error.bits), (14, None));
+        assert!(buffer.iter().all(|&byte| byte == 0xA5));
+    }
+}
+
+/// An image with one byte changed, its sum made right again if asked.
+fn damaged(offset: usize, byte: u8, right_sum: bool) -> Vec<u8> {
+    let mut image = Pd3120::default().image().to_vec();
+    image[offset] = byte;
+    if right_sum {
+        let sum: u16 = image[..715].iter().map(|&byte| u16::from(byte)).sum();
+        image[715..].copy_from_slice(&sum.to_be_bytes());
+    }
+    image
+}
+
+#[test]
+fn each_bad_image_is_refused_by_its_number_and_gives_the_box_of_zero_settings() {
+    let bad = [
+        (10, vec![]),
+        (10, vec![1; 718]),
+        (11, damaged(9, 15, true)),
+        (12, damaged(1, 1, false)),
+        (13, damaged(2, 0x20, true)),
+    ];
+    for (number, image) in bad {
+        let error = Pd3120::power_up(&image).unwrap_err();
+        assert_eq!((error.number(), error.bits), (number, None));
+        let mut module = used();
+        assert_eq!(module.power_up_again(&image), Err(error));
+        assert_eq!(shown(&module), shown(&Pd3120::default()), "{number}");
+    }
+}

@@ -1,0 +1,19 @@
+//! A new box, three pulses of a water meter on channel 4, and its Counter over
+//! the wire.
+
+use pd3120::{Error, Pd3120};
+
+fn main() -> Result<(), Error> {
+    let mut module = Pd3120::power_up(&[]).unwrap_or_else(|refused| {
+        println!("power-up {refused}");
+        Pd3120::default()
+    });
+    for _ in 0..3 {
+        module.level(4, true)?;
+        module.level(4, false)?;
+    }
+    let mut counter = [0; 4];
+    module.read(0x42, &mut counter)?;
+    println!("Counter of channel 4: {}", i32::from_be_bytes(counter));
+    Ok(())
+}
