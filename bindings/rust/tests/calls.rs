@@ -60,7 +60,8 @@ fn a_current_above_two_amperes_trips_the_output() {
     assert!(module.output(4));
     module.current(4, 2.0).expect("finite");
     assert!(module.output(4));
-    module.current(4, f32::from_bits(0x4000_0001)).expect("finite");
+    let above = f32::from_bits(2.0_f32.to_bits() + 1);
+    module.current(4, above).expect("finite");
     assert!(!module.output(4));
     assert_eq!(word(&mut module, 0x4F)[2] & 0x40, 0x40);
 }

@@ -1,5 +1,6 @@
 //! What a script is played on.
 
+use crate::channel::Channel;
 use crate::reals::Real;
 use crate::{Answer, ChannelBox};
 
@@ -14,6 +15,9 @@ pub trait Device {
     fn level(&mut self, channel: u8, on: bool) -> u8;
     fn current(&mut self, channel: u8, amperes: Real) -> u8;
     fn tick(&mut self);
+    /// Output of a channel, which no line of a script asks for; FALSE where
+    /// there is no such channel.
+    fn output(&self, channel: u8) -> bool;
 }
 
 impl Device for ChannelBox {
@@ -43,5 +47,26 @@ impl Device for ChannelBox {
 
     fn tick(&mut self) {
         ChannelBox::tick(self);
+    }
+
+    fn output(&self, channel: u8) -> bool {
+        let index = usize::from(channel).checked_sub(1);
+        let channel = index.and_then(|index| self.channels.get(index));
+        channel.is_some_and(Channel::output)
+    }
+}
+
+#[cfg(test)]
+mod tests {
+    use super::*;
+    use crate::bench::Bench;
+
+    #[test]
+    fn output_is_that_of_the_channel_with_the_number() {
+        let mut bench = Bench::watchdog_off();
+        bench.configure(16, [0, 0x10, 0, 0]);
+        bench.write(0x100, &[0x80]);
+        let on: Vec<u8> = (0..=255).filter(|&k| bench.device.output(k)).collect();
+        assert_eq!(on, [16]);
     }
 }

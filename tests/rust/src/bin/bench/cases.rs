@@ -1,0 +1,165 @@
+//! Single calls, each made many times on a prepared box.
+
+use crate::sides::Side;
+use reference_box::channel::{flag, Config, Kept};
+use reference_box::image::{Settings, LENGTH};
+use reference_box::CHANNELS;
+use std::hint::black_box;
+
+/// The box that a call is made on.
+#[derive(Clone, Copy)]
+pub enum Start {
+    /// The watchdog off, all other settings zero.
+    Idle,
+    /// All sixteen channels running a duty cycle, with two references each.
+    Busy,
+}
+
+/// The call that is made.
+#[derive(Clone, Copy)]
+pub enum Work {
+    Tick,
+    Read(u16),
+    Write(u16, &'static [u8]),
+    Level,
+    Current,
+    PowerUp,
+    Store,
+}
+
+/// Every case with its name in the table.
+pub const CASES: &[(&str, Start, Work)] = &[
+    ("tick, idle box", Start::Idle, Work::Tick),
+    ("tick, busy box", Start::Busy, Work::Tick),
+    ("read FlagReg ($10)", Start::Busy, Work::Read(0x10)),
+    ("read Counter ($12)", Start::Busy, Work::Read(0x12)),
+    ("read ChError ($1F)", Start::Busy, Work::Read(0x1F)),
+    ("read CommonError ($F)", Start::Busy, Work::Read(0x0F)),
+    (
+        "write FlagReg",
+        Start::Busy,
+        Work::Write(0x10, &[flag::CONTROL]),
+    ),
+    (
+        "write ChConfig",
+        Start::Busy,
+        Work::Write(0x19, &DUTY_CYCLE),
+    ),
+    ("level, alternating", Start::Busy, Work::Level),
+    ("current", Start::Busy, Work::Current),
+    ("power-up, 717 bytes", Start::Busy, Work::PowerUp),
+    ("store, 717 bytes", Start::Busy, Work::Store),
+];
+
+/// ChConfig of channel 1 in the busy box.
+const DUTY_CYCLE: [u8; 4] = [0, 0x30, 2, 3];
+
+/// ChConfig of a channel in the busy box: its references are the next two.
+pub fn busy_config(channel: u8) -> [u8; 4] {
+    let [enable, functions, ..] = DUTY_CYCLE;
+    [enable, functions, channel % 16 + 1, (channel + 1) % 16 + 1]
+}
+
+/// The busy box turns each output every second tick.
+fn busy_channel(channel: u8) -> Kept {
+    Kept {
+        config: Config::from_bytes(busy_config(channel)),
+        out_preset: 16,
+        fb_preset: 64,
+        max_current: 0x3F80_0000,
+        ..Kept::default()
+    }
+}
+
+/// The setup image of a start, in both with the watchdog off.
+pub fn image(start: Start) -> [u8; LENGTH] {
+    let settings = Settings {
+        module_config: Config::from_bytes([0, 0x10, 0, 0]),
+        channels: match start {
+            Start::Idle => [Kept::default(); CHANNELS],
+            Start::Busy => std::array::from_fn(|index| busy_channel(index as u8 + 1)),
+        },
+        ..Settings::default()
+    };
+    settings.encode()
+}
+
+/// A box of a start, with WriteEnable on.
+pub fn prepared<S: Side>(start: Start) -> S {
+    let mut side = S::default();
+    side.power_up(&image(start));
+    side.write(0x0D, &[1]);
+    if let Start::Busy = start {
+        for channel in 1..=16 {
+            side.write(u16::from(channel) * 0x10, &[flag::CONTROL]);
+            side.level(channel, channel % 2 == 0);
+        }
+    }
+    side
+}
+
+/// Makes the call so many times. Arguments pass through `black_box`, so that
+/// nothing is worked out once for all calls.
+pub fn repeat<S: Side>(side: &mut S, work: Work, times: u32) {
+    let mut buffer = [0; 12];
+    let mut room = [0; LENGTH];
+    let image = image(Start::Busy);
+    match work {
+        Work::Tick => (0..times).for_each(|_| side.tick()),
+        Work::Read(swno) => (0..times).for_each(|_| {
+            side.read(black_box(swno), black_box(&mut buffer));
+        }),
+        Work::Write(swno, bytes) => (0..times).for_each(|_| {
+            side.write(black_box(swno), black_box(bytes));
+        }),
+        Work::Level => (0..times).for_each(|count| {
+            side.level(black_box(4), black_box(count % 2 == 0));
+        }),
+        Work::Current => (0..times).for_each(|_| {
+            side.current(black_box(4), black_box(0.5));
+        }),
+        Work::PowerUp => (0..times).for_each(|_| side.power_up(black_box(&image))),
+        Work::Store => (0..times).for_each(|_| side.store(black_box(&mut room))),
+    }
+}
+
+#[cfg(test)]
+mod tests {
+    use super::*;
+    use crate::sides::Library;
+    use pd3120::{Error, Pd3120};
+
+    fn make(module: &mut Pd3120, work: Work) -> Result<(), Error> {
+        match work {
+            Work::Tick => module.tick(),
+            Work::Read(swno) => drop(module.read(swno, &mut [0; 12])?),
+            Work::Write(swno, bytes) => drop(module.write(swno, bytes)?),
+            Work::Level => module.level(4, true)?,
+            Work::Current => module.current(4, 0.5)?,
+            Work::PowerUp => module.power_up_again(&image(Start::Busy))?,
+            Work::Store => drop(module.store(&mut [0; LENGTH])?),
+        }
+        Ok(())
+    }
+
+    #[test]
+    fn no_call_that_is_measured_is_refused() {
+        for &(name, start, work) in CASES {
+            let Library(mut module) = prepared(start);
+            assert_eq!(make(&mut module, work), Ok(()), "{name}");
+        }
+    }
+
+    #[test]
+    fn every_channel_of_the_busy_box_turns_its_output() {
+        let Library(mut module) = prepared(Start::Busy);
+        for channel in 1..=16 {
+            let mut seen = [false; 2];
+            for _ in 0..8 {
+                module.tick();
+                seen[usize::from(module.output(channel))] = true;
+            }
+            assert_eq!(seen, [true; 2], "{channel}");
+        }
+    }
+}

@@ -1,0 +1,102 @@
+//! The two boxes that are measured.
+
+use pd3120::Pd3120;
+use reference_box::image::LENGTH;
+use reference_box::ChannelBox;
+use std::hint::black_box;
+
+/// A box whose calls are measured. Each method makes one call and hands the
+/// answer to `black_box`, so that none is left out for not being used.
+pub trait Side: Clone + Default {
+    fn power_up(&mut self, image: &[u8]);
+    fn store(&self, buffer: &mut [u8]);
+    fn read(&mut self, swno: u16, buffer: &mut [u8]);
+    fn write(&mut self, swno: u16, bytes: &[u8]);
+    fn level(&mut self, channel: u8, on: bool);
+    fn current(&mut self, channel: u8, amperes: f32);
+    fn tick(&mut self);
+
+    /// The kept values, by which both sides are seen to have done the same.
+    fn image(&self) -> [u8; LENGTH] {
+        let mut image = [0; LENGTH];
+        self.store(&mut image);
+        image
+    }
+}
+
+/// The proved library, through the wrapper and the C boundary.
+#[derive(Clone, Default)]
+pub struct Library(pub Pd3120);
+
+impl Side for Library {
+    fn power_up(&mut self, image: &[u8]) {
+        let _ = black_box(self.0.power_up_again(image));
+    }
+
+    fn store(&self, buffer: &mut [u8]) {
+        let _ = black_box(self.0.store(buffer));
+    }
+
+    fn read(&mut self, swno: u16, buffer: &mut [u8]) {
+        let _ = black_box(self.0.read(swno, buffer));
+    }
+
+    fn write(&mut self, swno: u16, bytes: &[u8]) {
+        let _ = black_box(self.0.write(swno, bytes));
+    }
+
+    fn level(&mut self, channel: u8, on: bool) {
+        let _ = black_box(self.0.level(channel, on));
+    }
+
+    fn current(&mut self, channel: u8, amperes: f32) {
+        let _ = black_box(self.0.current(channel, amperes));
+    }
+
+    fn tick(&mut self) {
+        self.0.tick();
+    }
+}
+
+/// The independent model, changed in place. Its methods are kept out of line: a
+/// call of the library cannot be merged into the loop around it, so neither may
+/// one of the model. Within such a method the compiler does as it likes.
+#[derive(Clone, Default)]
+pub struct Model(ChannelBox);
+
+impl Side for Model {
+    #[inline(never)]
+    fn power_up(&mut self, image: &[u8]) {
+        black_box(self.0.power_up(image));
+    }
+
+    #[inline(never)]
+    fn store(&self, buffer: &mut [u8]) {
+        black_box(self.0.store(buffer));
+    }
+
+    #[inline(never)]
+    fn read(&mut self, swno: u16, buffer: &mut [u8]) {
+        black_box(self.0.read(swno, buffer));
+    }
+
+    #[inline(never)]
+    fn write(&mut self, swno: u16, bytes: &[u8]) {
+        black_box(self.0.write(swno, bytes));
+    }
+
+    #[inline(never)]
+    fn level(&mut self, channel: u8, on: bool) {
+        black_box(self.0.level(channel, on));
+    }
+
+    #[inline(never)]
+    fn current(&mut self, channel: u8, amperes: f32) {
+        black_box(self.0.current(channel, amperes.to_bits()));
+    }
+
+    #[inline(never)]
+    fn tick(&mut self) {
+        self.0.tick();
+    }
+}

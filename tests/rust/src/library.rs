@@ -1,0 +1,69 @@
+//! The library's box as a device that scripts are played on.
+
+use pd3120::{Error, ErrorBits, Pd3120};
+use reference_box::player::Device;
+use reference_box::reals::Real;
+use reference_box::Answer;
+
+/// Before its first power-up it is the box of a refused one, as the model is.
+#[derive(Clone, Debug, Default)]
+pub struct Library(pub Pd3120);
+
+/// "0 = done".
+fn number<T>(answer: Result<T, Error>) -> u8 {
+    answer.map_or_else(|error| error.number(), |_| 0)
+}
+
+fn wire(answer: Result<pd3120::Answer, Error>) -> Answer {
+    let (number, length, bits) = match answer {
+        Ok(done) => (0, done.length, Some(done.bits)),
+        Err(error) => (error.number(), 0, error.bits),
+    };
+    let ErrorBits {
+        data_error,
+        general_error,
+    } = bits.expect("a wire call answers its two bits");
+    Answer {
+        number,
+        length,
+        data_error,
+        general_error,
+    }
+}
+
+impl Device for Library {
+    fn power_up(&mut self, image: &[u8]) -> u8 {
+        number(self.0.power_up_again(image))
+    }
+
+    fn store(&self, buffer: &mut [u8]) -> (u8, usize) {
+        match self.0.store(buffer) {
+            Ok(length) => (0, length),
+            Err(error) => (error.number(), 0),
+        }
+    }
+
+    fn read(&mut self, swno: u16, buffer: &mut [u8]) -> Answer {
+        wire(self.0.read(swno, buffer))
+    }
+
+    fn write(&mut self, swno: u16, bytes: &[u8]) -> Answer {
+        wire(self.0.write(swno, bytes))
+    }
+
+    fn level(&mut self, channel: u8, on: bool) -> u8 {
+        number(self.0.level(channel, on))
+    }
+
+    fn current(&mut self, channel: u8, amperes: Real) -> u8 {
+        number(self.0.current(channel, f32::from_bits(amperes)))
+    }
+
+    fn tick(&mut self) {
+        self.0.tick();
+    }
+
+    fn output(&self, channel: u8) -> bool {
+        self.0.output(channel)
+    }
+}
