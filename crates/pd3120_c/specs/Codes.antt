@@ -6,7 +6,7 @@ use Prim.Native.Nat.{ℕ, _+_, _*_, _/_, _%_, _<_}
 use Rattle.model.specs.declared.Module.{Module}
 use Rattle.model.specs.declared.Reply.{Reply}
 use Rattle.model.specs.Questions.{numberOf, lengthOf, powerUpReply, storeReply}
-use Rattle.model.specs.Calls.{Answer, plainAnswer, Stepped, powerUp, stored}
+use Rattle.model.specs.Calls.{tick, Answer, plainAnswer, Stepped, step, powerUp, stored}
 use Rattle.pd3120_c.specs.declared.Done.{Done}
 
 -- bits 0 to 7 the number, bits 8 to 23 the length, bit 24 DataError, bit 25 GeneralError
@@ -43,6 +43,10 @@ Left s m′ code = (m′ ≡ s .box) × (code ≡ answerCode (s .answer))
 
 abbrev pub LeftLent : Stepped → Module → ℕ → List ℕ → Type 0
 LeftLent s m′ code lent′ = Left s m′ code × (lent′ ≡ s .answer .buffer)
+
+-- a tick answers nothing
+abbrev pub Ticked : Module → Module → Type 0
+Ticked m m′ = m′ ≡ step m tick .box
 
 -- storing answers its number and length, and changes the buffer alone
 abbrev pub Stored : Module → List ℕ → ℕ → List ℕ → Type 0

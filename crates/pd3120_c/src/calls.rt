@@ -10,9 +10,9 @@ use model::Module;
 pub fn power_up(img: &[u8]) -> Done
     ensures { λ r. ⌜ r ≡ doneBy (started (now (img .entry))) ⌝ }
 {
-    let s = pd3120::power_up(img);
-    let after = s.after;
-    let reply = s.reply;
+    let started = pd3120::power_up(img);
+    let after = started.after;
+    let reply = started.reply;
     Done {
         after: after,
         code: codes::pack(reply, false, false),
@@ -29,33 +29,33 @@ pub fn store(m: Module, buf: &mut [u8]) -> u32
 pub fn read(m: Module, swno: u16, buf: &mut [u8]) -> Done
     ensures { λ r. ⌜ LentBy (step m (read swno (now (buf .entry)))) r (now (buf .exit)) ⌝ }
 {
-    let a = pd3120::read(m, swno, buf);
-    let after = a.after;
-    let reply = a.reply;
+    let answered = pd3120::read(m, swno, buf);
+    let after = answered.after;
+    let reply = answered.reply;
     Done {
         after: after,
-        code: codes::pack(reply, a.data_error, a.general_error),
+        code: codes::pack(reply, answered.data_error, answered.general_error),
     }
 }
 
 pub fn write(m: Module, swno: u16, bytes: &[u8]) -> Done
     ensures { λ r. ⌜ r ≡ doneBy (step m (write swno (now (bytes .entry)))) ⌝ }
 {
-    let a = pd3120::write(m, swno, bytes);
-    let after = a.after;
-    let reply = a.reply;
+    let written = pd3120::write(m, swno, bytes);
+    let after = written.after;
+    let reply = written.reply;
     Done {
         after: after,
-        code: codes::pack(reply, a.data_error, a.general_error),
+        code: codes::pack(reply, written.data_error, written.general_error),
     }
 }
 
 pub fn level(m: Module, channel: u8, on: bool) -> Done
     ensures { λ r. ⌜ r ≡ doneBy (step m (level channel on)) ⌝ }
 {
-    let s = pd3120::level(m, channel, on);
-    let after = s.after;
-    let reply = s.reply;
+    let sampled = pd3120::level(m, channel, on);
+    let after = sampled.after;
+    let reply = sampled.reply;
     Done {
         after: after,
         code: codes::pack(reply, false, false),
@@ -65,9 +65,9 @@ pub fn level(m: Module, channel: u8, on: bool) -> Done
 pub fn current(m: Module, channel: u8, amperes: f32) -> Done
     ensures { λ r. ⌜ r ≡ doneBy (step m (current channel amperes)) ⌝ }
 {
-    let s = pd3120::current(m, channel, amperes);
-    let after = s.after;
-    let reply = s.reply;
+    let sampled = pd3120::current(m, channel, amperes);
+    let after = sampled.after;
+    let reply = sampled.reply;
     Done {
         after: after,
         code: codes::pack(reply, false, false),

@@ -3,9 +3,8 @@
 // No function asks anything of its caller beyond what a reference itself carries.
 ghost use mathlib.Core.Path.{_≡_};
 ghost use Rattle.model.specs.Calls.{read, write, level, current, step};
-ghost use Rattle.model.specs.Tick.{ticked};
 ghost use Rattle.pd3120.specs.Answers.{outputAt};
-ghost use Rattle.pd3120_c.specs.Codes.{started, Left, LeftLent, Stored};
+ghost use Rattle.pd3120_c.specs.Codes.{started, Left, LeftLent, Ticked, Stored};
 
 mod calls;
 mod codes;
@@ -74,7 +73,7 @@ pub extern "C" fn pd3120_current(m: &mut Module, channel: u8, amperes: f32) -> u
 
 #[no_mangle]
 pub extern "C" fn pd3120_tick(m: &mut Module)
-    ensures { λ _. ⌜ now (m .exit) ≡ ticked (now (m .entry)) ⌝ }
+    ensures { λ _. ⌜ Ticked (now (m .entry)) (now (m .exit)) ⌝ }
 {
     *m = pd3120::tick(*m);
 }

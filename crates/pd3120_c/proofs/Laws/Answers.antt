@@ -1,5 +1,5 @@
 -- An answer packed: the module and the code of the model's step, from what the library's call and the packing give. Assumes nothing.
-use mathlib.Core.Path.{_≡_, refl}
+use mathlib.Core.Path.{_≡_, refl, ap}
 use mathlib.Core.Bool.{Bool, false}
 use mathlib.Core.List.{List}
 use Prim.Native.Nat.{ℕ}
@@ -7,7 +7,7 @@ use lib.Ieee.{Float}
 use Rattle.model.specs.declared.Channel.{Channel}
 use Rattle.model.specs.declared.Module.{Module}
 use Rattle.model.specs.declared.Reply.{Reply}
-use Rattle.model.specs.declared.Reply.the-variants.{Done, Refused}
+use Rattle.model.specs.declared.Reply.the-variants.{Done as Accepted, Refused}
 use Rattle.model.specs.State.{channelAt}
 use Rattle.model.specs.Channel.{takeLevel, takeCurrent}
 use Rattle.model.specs.Questions.{levelReply, currentReply, powerUpReply}
@@ -15,7 +15,12 @@ use Rattle.model.specs.Calls.{level, current, Stepped, sampledAs, step, powerUp
 use Rattle.pd3120.specs.declared.Answered.{Answered}
 use Rattle.pd3120.specs.declared.Sampled.{Sampled}
 use Rattle.pd3120.specs.Answers.{answeredBy, sampledBy}
-use Rattle.pd3120_c.specs.Codes.{replyCode, doneBy, started}
+use Rattle.pd3120_c.specs.declared.Done.{Done}
+use Rattle.pd3120_c.specs.Codes.{replyCode, doneBy, started, Left}
+
+-- what the caller has of such a pair
+pub left : (s : Stepped) (d : Done) → d ≡ doneBy s → Left s (d .after) (d .code)
+left s d e = (ap (λ (a : Done). a .after) e, ap (λ (a : Done). a .code) e)
 
 pub wire-done : (s : Stepped) (a : Answered) (code : ℕ) → a ≡ answeredBy s → code ≡ replyCode (a .reply) (a .«data_error») (a .«general_error»)
     → record { after = a .after; code = code } ≡ doneBy s
@@ -24,7 +29,7 @@ wire-done s a code e f = rw (f, e)
 -- a sample answers no bits
 sample-cases : (r : Reply) (k : ℕ) (ch : Channel) (m : Module)
     → record { after = sampledAs r k ch m .box; code = replyCode (sampledAs r k ch m .answer .reply) false false } ≡ doneBy (sampledAs r k ch m)
-sample-cases (Done n) k ch m = refl
+sample-cases (Accepted n) k ch m = refl
 sample-cases (Refused w) k ch m = refl
 
 sample-done : (r : Reply) (k : ℕ) (ch : Channel) (m : Module) (s : Sampled) (code : ℕ) → s ≡ sampledBy (sampledAs r k ch m)

@@ -1,14 +1,15 @@
 -- `pd3120_level` meets its contract, by the walk of `Walks/Sample.antt`. Assumes nothing.
 use contract.Running.{givenOf, tables, tablesOf}
-use mathlib.Core.Path.{_≡_, ap}
+use denote.Triple.Spec.{tripleOf}
+use denote.Triple.Table.{entered, cited}
+use mathlib.Core.Path.{_≡_}
 use mathlib.Core.Bool.{Bool}
 use Prim.Native.Nat.{ℕ}
 use Rattle.model.specs.declared.Module.{Module}
 use Rattle.model.specs.Calls.{level, step}
 use Rattle.pd3120_c.specs.declared.Done.{Done}
 use Rattle.pd3120_c.specs.Codes.{doneBy, Left}
-use denote.Triple.Spec.{tripleOf}
-use denote.Triple.Table.{entered, cited}
+use Rattle.pd3120_c.proofs.Laws.Answers.{left}
 use Rattle.pd3120_c.proofs.Walks.Types.{held, byte, flag, answer}
 use Rattle.pd3120_c.proofs.Walks.Sample.{Called, meets}
 use Rattle.pd3120_c.proofs.calls.level.Symbol as call-def
@@ -26,7 +27,7 @@ abbrev Leaves : Module → ℕ → Bool → Module → ℕ → Type 0
 Leaves m k x m′ code = Left (step m (level k x)) m′ code
 
 follows : (m : Module) (k : ℕ) (x : Bool) (d : Done) → Gives m k x d → Leaves m k x (d .after) (d .code)
-follows m k x d e = (ap (λ (a : Done). a .after) e, ap (λ (a : Done). a .code) e)
+follows m k x d e = left (step m (level k x)) d e
 
 pub pd3120-level-spec : {M : Type 1} → stated.statement M
 unfolding code.routine tablesOf

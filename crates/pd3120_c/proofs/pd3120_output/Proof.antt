@@ -1,12 +1,12 @@
 -- `pd3120_output` meets its contract, by the walk of `Walks/Output.antt`. Assumes nothing.
 use contract.Running.{givenOf, tables, tablesOf}
+use denote.Triple.Spec.{tripleOf}
+use denote.Triple.Table.{entered, cited}
 use mathlib.Core.Path.{_≡_}
 use mathlib.Core.Bool.{Bool}
 use Prim.Native.Nat.{ℕ}
 use Rattle.model.specs.declared.Module.{Module}
 use Rattle.pd3120.specs.Answers.{outputAt}
-use denote.Triple.Spec.{tripleOf}
-use denote.Triple.Table.{entered, cited}
 use Rattle.pd3120_c.proofs.Walks.Types.{held, byte, flag}
 use Rattle.pd3120_c.proofs.Walks.Output.{Called, meets}
 use Rattle.pd3120.proofs.output.Symbol as call-def

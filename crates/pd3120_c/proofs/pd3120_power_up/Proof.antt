@@ -1,13 +1,14 @@
 -- `pd3120_power_up` meets its contract, by the walk of `Walks/PowerUp.antt`. Assumes nothing.
 use contract.Running.{givenOf, tables, tablesOf}
-use mathlib.Core.Path.{_≡_, ap}
+use denote.Triple.Spec.{tripleOf}
+use denote.Triple.Table.{entered, cited}
+use mathlib.Core.Path.{_≡_}
 use mathlib.Core.List.{List}
 use Prim.Native.Nat.{ℕ}
 use Rattle.model.specs.declared.Module.{Module}
 use Rattle.pd3120_c.specs.declared.Done.{Done}
 use Rattle.pd3120_c.specs.Codes.{doneBy, started, Left}
-use denote.Triple.Spec.{tripleOf}
-use denote.Triple.Table.{entered, cited}
+use Rattle.pd3120_c.proofs.Laws.Answers.{left}
 use Rattle.pd3120_c.proofs.Walks.Types.{held, answer}
 use Rattle.pd3120_c.proofs.Walks.PowerUp.{Called, meets}
 use Rattle.pd3120_c.proofs.calls.power_up.Symbol as call-def
@@ -25,7 +26,7 @@ abbrev Leaves : List ℕ → Module → ℕ → Type 0
 Leaves img m′ code = Left (started img) m′ code
 
 follows : (img : List ℕ) (d : Done) → Gives img d → Leaves img (d .after) (d .code)
-follows img d e = (ap (λ (a : Done). a .after) e, ap (λ (a : Done). a .code) e)
+follows img d e = left (started img) d e
 
 pub pd3120-power-up-spec : {M : Type 1} → stated.statement M
 unfolding code.routine tablesOf

@@ -1,14 +1,15 @@
 -- `pd3120_read` meets its contract, by the walk of `Walks/Read.antt`. Assumes nothing.
 use contract.Running.{givenOf, tables, tablesOf}
-use mathlib.Core.Path.{_≡_, ap}
+use denote.Triple.Spec.{tripleOf}
+use denote.Triple.Table.{entered, cited}
+use mathlib.Core.Path.{_≡_}
 use mathlib.Core.List.{List}
 use Prim.Native.Nat.{ℕ}
 use Rattle.model.specs.declared.Module.{Module}
 use Rattle.model.specs.Calls.{read, step}
 use Rattle.pd3120_c.specs.declared.Done.{Done}
 use Rattle.pd3120_c.specs.Codes.{LentBy, LeftLent}
-use denote.Triple.Spec.{tripleOf}
-use denote.Triple.Table.{entered, cited}
+use Rattle.pd3120_c.proofs.Laws.Answers.{left}
 use Rattle.pd3120_c.proofs.Walks.Types.{held, word, answer}
 use Rattle.pd3120_c.proofs.Walks.Read.{Called, meets}
 use Rattle.pd3120_c.proofs.calls.read.Symbol as call-def
@@ -26,7 +27,7 @@ abbrev Leaves : Module → ℕ → List ℕ → Module → ℕ → List ℕ → 
 Leaves m n lent m′ code lent′ = LeftLent (step m (read n lent)) m′ code lent′
 
 follows : (m : Module) (n : ℕ) (lent : List ℕ) (d : Done) (lent′ : List ℕ) → Gives m n lent d lent′ → Leaves m n lent (d .after) (d .code) lent′
-follows m n lent d lent′ e = ((ap (λ (a : Done). a .after) (e .0), ap (λ (a : Done). a .code) (e .0)), e .1)
+follows m n lent d lent′ e = (left (step m (read n lent)) d (e .0), e .1)
 
 pub pd3120-read-spec : {M : Type 1} → stated.statement M
 unfolding code.routine tablesOf

@@ -1,14 +1,15 @@
 -- `pd3120_write` meets its contract, by the walk of `Walks/Write.antt`. Assumes nothing.
 use contract.Running.{givenOf, tables, tablesOf}
-use mathlib.Core.Path.{_≡_, ap}
+use denote.Triple.Spec.{tripleOf}
+use denote.Triple.Table.{entered, cited}
+use mathlib.Core.Path.{_≡_}
 use mathlib.Core.List.{List}
 use Prim.Native.Nat.{ℕ}
 use Rattle.model.specs.declared.Module.{Module}
 use Rattle.model.specs.Calls.{write, step}
 use Rattle.pd3120_c.specs.declared.Done.{Done}
 use Rattle.pd3120_c.specs.Codes.{doneBy, Left}
-use denote.Triple.Spec.{tripleOf}
-use denote.Triple.Table.{entered, cited}
+use Rattle.pd3120_c.proofs.Laws.Answers.{left}
 use Rattle.pd3120_c.proofs.Walks.Types.{held, word, answer}
 use Rattle.pd3120_c.proofs.Walks.Write.{Called, meets}
 use Rattle.pd3120_c.proofs.calls.write.Symbol as call-def
@@ -26,7 +27,7 @@ abbrev Leaves : Module → ℕ → List ℕ → Module → ℕ → Type 0
 Leaves m n bs m′ code = Left (step m (write n bs)) m′ code
 
 follows : (m : Module) (n : ℕ) (bs : List ℕ) (d : Done) → Gives m n bs d → Leaves m n bs (d .after) (d .code)
-follows m n bs d e = (ap (λ (a : Done). a .after) e, ap (λ (a : Done). a .code) e)
+follows m n bs d e = left (step m (write n bs)) d e
 
 pub pd3120-write-spec : {M : Type 1} → stated.statement M
 unfolding code.routine tablesOf
