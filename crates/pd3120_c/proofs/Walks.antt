@@ -1,9 +1,8 @@
+pub mod Input
 pub mod Output
 pub mod Plain
 pub mod PowerUp
 pub mod Read
-pub mod Sample
 pub mod Store
 pub mod Tick
 pub mod Types
-pub mod Write

@@ -1,7 +1,7 @@
 -- The walk of an exported call that takes a value and a lent buffer. A function of the shape
 --     pub extern "C" fn f(m: &mut S, i: I, buf: &mut [u8]) -> u32 { let done = call(*m, i, buf); *m = done.after; done.code }
 -- leaves Q, where its callee, of which only its contract is known, gives a `done` and a buffer of which P holds, and Q follows from P.
--- `fn-of` is its MIR but for the callee's key. It goes as the walk of `Write.antt`,
+-- `fn-of` is its MIR but for the callee's key. It goes as the walk of `Input.antt`,
 -- but that the buffer is given up to the callee, whose contract says its last bytes.
 -- Assumes nothing.
 use mathlib.Core.Path.{_≡_, refl, ap}

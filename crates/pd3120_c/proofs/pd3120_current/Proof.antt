@@ -1,4 +1,4 @@
--- `pd3120_current` meets its contract, by the walk of `Walks/Sample.antt`. Assumes nothing.
+-- `pd3120_current` meets its contract, by the walk of `Walks/Input.antt`. Assumes nothing.
 use contract.Running.{givenOf, tables, tablesOf}
 use denote.Triple.Spec.{tripleOf}
 use denote.Triple.Table.{entered, cited}
@@ -10,8 +10,8 @@ use Rattle.model.specs.Calls.{current, step}
 use Rattle.pd3120_c.specs.declared.Done.{Done}
 use Rattle.pd3120_c.specs.Codes.{doneBy, Left}
 use Rattle.pd3120_c.proofs.Laws.Answers.{left}
-use Rattle.pd3120_c.proofs.Walks.Types.{held, byte, real, answer}
-use Rattle.pd3120_c.proofs.Walks.Sample.{Called, meets}
+use Rattle.pd3120_c.proofs.Walks.Types.{held, byte, real, value, answer}
+use Rattle.pd3120_c.proofs.Walks.Input.{Called, meets}
 use Rattle.pd3120_c.proofs.calls.current.Symbol as call-def
 use Rattle.pd3120_c.proofs.calls.current.Symbol.{name as #call}
 use Rattle.pd3120_c.proofs.calls.current.Met as call-thm
@@ -34,5 +34,6 @@ unfolding code.routine tablesOf
 pd3120-current-spec 𝓤 H 𝓜 𝓖 𝓡 =
     entered 𝓤 H (tripleOf 𝓤 H (𝓖 .A) exported.signature (exported.spec 𝓤 H (𝓖 .A) (𝓜 .mem) (𝓡 .run)))
     (tables 𝓤 H 𝓜 𝓡 code.env .C) (tables 𝓤 H 𝓜 𝓡 code.env .Λ) #export code.function (code.unfolded 𝓤 H 𝓜 𝓡)
-    (meets held byte real answer 𝓤 H (𝓖 .A) (givenOf 𝓤 H 𝓜 𝓖) #call Gives Leaves follows (tablesOf 𝓤 H 𝓜 (tables 𝓤 H 𝓜 𝓡 code.env))
-    (cited 𝓤 H (Called held byte real answer 𝓤 H (𝓖 .A) Gives) 𝓜 𝓡 code.env #call call-def.routine code.calls-pd3120-c·calls·current (call-thm.met 𝓤 H 𝓜 𝓖 𝓡)))
+    (meets held byte (value real) answer 𝓤 H (𝓖 .A) (givenOf 𝓤 H 𝓜 𝓖) #call Gives Leaves follows (tablesOf 𝓤 H 𝓜 (tables 𝓤 H 𝓜 𝓡 code.env))
+    (cited 𝓤 H (Called held byte (value real) answer 𝓤 H (𝓖 .A) Gives) 𝓜 𝓡 code.env #call call-def.routine code.calls-pd3120-c·calls·current
+    (call-thm.met 𝓤 H 𝓜 𝓖 𝓡)))

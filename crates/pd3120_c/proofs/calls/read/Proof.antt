@@ -10,7 +10,9 @@ read-requires : tie.Need-read-requires
 read-requires c κs = search needs
 
 pack-requires : tie.Need-pack-requires
-pack-requires c κs = let s = c .before .before .before .before .before .before .args in wire-length (s .m) (read (s .swno) (s .buf .now)) _ (c .before .before .before .read .ensures .0)
+pack-requires c κs =
+    let s = c .before .before .before .before .before .before .args in
+    wire-length (s .m) (read (s .swno) (s .buf .now)) _ (c .before .before .before .read .ensures .0)
 
 same-length : tie.Need-same-length
 same-length c = search needs
