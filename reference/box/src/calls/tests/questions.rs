@@ -1,0 +1,117 @@
+//! Questions answered with no.
+
+use super::*;
+
+#[test]
+fn a_refused_read_leaves_buffer_and_box() {
+    let mut bench = busy();
+    for (swno, length, number) in [
+        (0x120, 12, 1),
+        (0xFFFF, 0, 1),
+        (0x01, 12, 2),
+        (0x0E, 0, 2),
+        (0x1E, 12, 2),
+        (0x113, 4, 2),
+        (0x00, 1, 5),
+        (0x0F, 11, 5),
+        (0x1F, 3, 5),
+        (0x10, 0, 5),
+    ] {
+        let mut expected = bench.device.clone();
+        expected.act &= !RUN_OUT;
+        expected.wd_timer = expected.wd_preset;
+        let (answer, buffer) = read_into(&mut bench, swno, length);
+        assert_eq!((answer.number, answer.length), (number, 0), "{swno:x}");
+        assert_eq!(buffer, vec![LENT; length]);
+        assert_eq!(bench.device, expected);
+    }
+}
+
+#[test]
+fn a_refused_write_leaves_the_box() {
+    let mut bench = busy();
+    bench.write(0x0D, &[0]);
+    let refusals: [(u16, &[u8], u8); 14] = [
+        (0x120, &[], 1),
+        (0x0B, &[0], 2),
+        (0x00, &[], 3),
+        (0x07, &[0; 4], 3),
+        (0x1F, &[0; 4], 3),
+        (0x112, &[0; 9], 3),
+        (0x19, &[0; 3], 4),
+        (0x10, &[0; 2], 4),
+        (0x0F, &[0; 11], 4),
+        (0x19, &[0, 0x99, 0, 0], 6),
+        (0x09, &[0; 4], 6),
+        (0x03, &[0xFE], 7),
+        (0x0D, &[2], 7),
+        (0x0F, &[0, 0, 0, 0, 0, 0, 0, 0, 0, 0, 0, 1], 7),
+    ];
+    for (swno, bytes, number) in refusals {
+        let mut expected = bench.device.clone();
+        expected.act &= !RUN_OUT;
+        expected.wd_timer = expected.wd_preset;
+        assert_eq!(bench.write(swno, bytes), number, "{swno:x}");
+        assert_eq!(bench.device, expected);
+    }
+}
+
+#[test]
+fn values_that_do_not_suit_get_7() {
+    let mut bench = Bench::watchdog_off();
+    bench.write(0x0D, &[1]);
+    for (swno, word) in [
+        (0x0A, 0x8000_0001),
+        (0x09, 0x0020_0000),
+        (0x11, 0x4B00_0000),
+        (0x13, 0x7F80_0000),
+        (0x13, 0x7FC0_0000),
+        (0x14, 0x4E00_0000),
+        (0x14, 0x8000_0001),
+        (0x16, 0xCB00_0001),
+        (0x17, 0x8000_0001),
+        (0x18, 0x4B00_0000),
+        (0x19, 0x0040_0000),
+        (0x19, 0x0010_1100),
+        (0x19, 0x0010_0011),
+        (0x1A, 0x3F80_0001),
+        (0x1B, 0x8000_0001),
+    ] {
+        assert_eq!(bench.write_word(swno, word), 7, "{swno:x} {word:08x}");
+    }
+}
+
+#[test]
+fn samples_have_their_own_numbers() {
+    let mut bench = Bench::watchdog_off();
+    let before = bench.device.clone();
+    for channel in [0, 17, 255] {
+        assert_eq!(bench.device.level(channel, true), 8);
+        assert_eq!(bench.device.current(channel, 0x7FC0_0000), 8);
+    }
+    for amperes in [0x7F80_0000, 0xFF80_0000, 0x7FC0_0000, 0xFFFF_FFFF] {
+        assert_eq!(bench.device.current(1, amperes), 9);
+    }
+    assert_eq!(bench.device, before);
+    assert_eq!(bench.device.current(16, 0xFF7F_FFFF), 0);
+    assert_eq!(bench.device.level(16, true), 0);
+}
+
+#[test]
+fn storing_wants_717_bytes() {
+    let bench = busy();
+    let mut short = [LENT; 716];
+    assert_eq!(bench.device.store(&mut short), (14, 0));
+    assert_eq!(short, [LENT; 716]);
+    let mut long = [LENT; 720];
+    assert_eq!(bench.device.store(&mut long), (0, 717));
+    assert_eq!(long[717..], [LENT; 3]);
+}
+
+#[test]
+fn bytes_past_an_answer_are_unchanged() {
+    let mut bench = Bench::watchdog_off();
+    let (answer, buffer) = read_into(&mut bench, 0x00, 5);
+    assert_eq!(answer.length, 2);
+    assert_eq!(buffer, [0x01, 0x1F, LENT, LENT, LENT]);
+}
