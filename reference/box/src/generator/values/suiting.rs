@@ -1,0 +1,61 @@
+//! Bytes that suit a register.
+
+use super::numbers::{count, current, limit, signed_time, time};
+use super::settings::{config, module_config, wd_preset};
+use super::Flavour;
+use crate::generator::random::Random;
+use crate::reals;
+
+/// Bytes that a write of a listed, writable register may well be accepted
+/// with.
+pub fn suiting(random: &mut Random, swno: u16, focus: &[u8], flavour: Flavour) -> Vec<u8> {
+    match (swno >> 4, swno & 0xF) {
+        (0, register) => suiting_service(random, register, flavour),
+        (17, _) => random.bytes(2),
+        (channel, register) => suiting_digital(random, channel as u8, register, focus, flavour),
+    }
+}
+
+fn suiting_service(random: &mut Random, register: u16, flavour: Flavour) -> Vec<u8> {
+    match register {
+        0x3 => vec![0xFF],
+        0x8 => time(random).to_be_bytes().to_vec(),
+        0x9 => module_config(random, flavour).to_vec(),
+        0xA => {
+            let count = wd_preset(random, flavour).min(0x7FFF_FF80);
+            reals::from_timer_count(count).to_be_bytes().to_vec()
+        }
+        0xD => vec![u8::from(random.chance(3, 4))],
+        _ => vec![0; 12],
+    }
+}
+
+fn suiting_digital(
+    random: &mut Random,
+    own: u8,
+    register: u16,
+    focus: &[u8],
+    flavour: Flavour,
+) -> Vec<u8> {
+    let word = match register {
+        0x0 => return vec![flag_reg(random)],
+        0xC => return random.bytes(8),
+        0x1 | 0x6 => signed_time(random),
+        0x2 => count(random, flavour),
+        0x3 => current(random),
+        0x4 => reals::from_operating_count(count(random, flavour) & 0xFFFF_FF00),
+        0x7 | 0x8 => time(random),
+        0x9 => u32::from_be_bytes(config(random, own, focus, flavour)),
+        0xA | 0xB => limit(random),
+        _ => random.word(),
+    };
+    word.to_be_bytes().to_vec()
+}
+
+/// A FlagReg to write: OutFlag, Control and InFlag in every mixture.
+pub fn flag_reg(random: &mut Random) -> u8 {
+    match random.below(6) {
+        0 => random.byte(),
+        _ => random.pick(&[0x00, 0x08, 0x08, 0x48, 0x40, 0x80, 0x88, 0xC0, 0xC8]),
+    }
+}
