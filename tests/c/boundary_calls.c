@@ -1,0 +1,187 @@
+/*
+ * The calls that trust their pointers: answers and reasons, setup images, wire calls, samples and
+ * ticks.
+ */
+#include "boundary.h"
+
+#include <math.h>
+#include <string.h>
+
+void answers(void)
+{
+    const uint32_t code = 7u | 717u << 8 | 1u << 24;
+    CHECK(pd3120_number(code) == 7);
+    CHECK(pd3120_length(code) == 717);
+    CHECK(pd3120_data_error(code) && !pd3120_general_error(code));
+    CHECK(!pd3120_data_error(1u << 25) && pd3120_general_error(1u << 25));
+    CHECK(pd3120_number(0xFF00) == 0 && pd3120_length(0x03FFFFFF) == 0xFFFF);
+
+    static const uint8_t numbers[] = {0, 1, 2, 3, 4, 5, 6, 7, 8, 9, 10, 11, 12, 13, 14, 254, 255, 15};
+    for (size_t i = 0; i < sizeof numbers; i++)
+        for (size_t j = 0; j < i; j++)
+            CHECK(strcmp(pd3120_reason(numbers[i]), pd3120_reason(numbers[j])) != 0);
+    CHECK(pd3120_reason(code) == pd3120_reason(7));
+}
+
+void images(void)
+{
+    pd3120_module zero = {{0}}, refused = {{0}};
+    static const uint8_t history[12] = {0x80};
+
+    /* A refused image gives the box of all-zero settings, with His bit 7; zero memory has no such bit. */
+    CHECK(power_up(image, 0) == PD3120_IMAGE_LENGTH);
+    CHECK(!alike(box, &zero));
+    refused = *box;
+    CHECK(reads(0x0F, history, 12));
+    CHECK(alike(box, &zero));
+
+    CHECK(power_up(image, PD3120_IMAGE_SIZE) == PD3120_DONE);
+    CHECK(!alike(box, &refused));
+    CHECK(power_up(image, PD3120_IMAGE_SIZE - 1) == PD3120_IMAGE_LENGTH);
+    CHECK(alike(box, &refused));
+    uint8_t wrong[PD3120_IMAGE_SIZE + 1] = {0};
+    memcpy(wrong, image, sizeof image);
+    CHECK(power_up(wrong, PD3120_IMAGE_SIZE + 1) == PD3120_IMAGE_LENGTH);
+    wrong[9] = 15;
+    put_sum(wrong);
+    CHECK(power_up(wrong, PD3120_IMAGE_SIZE) == PD3120_IMAGE_COUNTS);
+    CHECK(alike(box, &refused));
+    wrong[9] = 16;
+    CHECK(power_up(wrong, PD3120_IMAGE_SIZE) == PD3120_IMAGE_SUM);
+    CHECK(alike(box, &refused));
+    wrong[2] = 1; /* Functions of ModuleConfig */
+    put_sum(wrong);
+    CHECK(power_up(wrong, PD3120_IMAGE_SIZE) == PD3120_IMAGE_VALUES);
+    CHECK(alike(box, &refused));
+
+    /* Stored again, the bytes are the same. */
+    CHECK(power_up(image, PD3120_IMAGE_SIZE) == PD3120_DONE);
+    pd3120_module before = *box;
+    memset(memory, CANARY, sizeof memory);
+    CHECK(pd3120_store(box, lent, PD3120_IMAGE_SIZE - 1) == PD3120_NO_ROOM);
+    CHECK(intact_past(0));
+    uint32_t code = pd3120_store(box, lent, ROOM);
+    CHECK(pd3120_number(code) == PD3120_DONE && pd3120_length(code) == PD3120_IMAGE_SIZE);
+    CHECK(!pd3120_data_error(code) && !pd3120_general_error(code));
+    CHECK(intact_past(PD3120_IMAGE_SIZE) && memcmp(lent, image, sizeof image) == 0);
+    memset(memory, CANARY, sizeof memory);
+    CHECK(pd3120_store(box, lent, PD3120_IMAGE_SIZE) == code);
+    CHECK(intact_past(PD3120_IMAGE_SIZE) && memcmp(lent, image, sizeof image) == 0);
+    CHECK(arena_intact() && alike(box, &before));
+}
+
+void wire_calls(void)
+{
+    static const uint8_t zeros[12] = {0}, yes[1] = {1}, two[1] = {2}, on[1] = {0x80};
+    static const uint8_t settings[4] = {0x01, 0x10, 2, 0}, input[4] = {0};
+    static const uint8_t counter[4] = {0xFE, 0xDC, 0xBA, 0x98};
+
+    CHECK(power_up(image, PD3120_IMAGE_SIZE) == PD3120_DONE);
+    pd3120_module before = *box;
+
+    /* Every refusal of a wire call; the box is as before. */
+    CHECK(pd3120_number(wire_read(0x120, ROOM)) == PD3120_BEYOND);
+    CHECK(pd3120_number(wire_read(0xFFFF, ROOM)) == PD3120_BEYOND);
+    CHECK(wire_write(0x120, zeros, 4) == PD3120_BEYOND);
+    CHECK(pd3120_number(wire_read(0x01, ROOM)) == PD3120_UNLISTED);
+    CHECK(wire_write(0x4E, zeros, 4) == PD3120_UNLISTED);
+    CHECK(wire_write(0x00, zeros, 2) == PD3120_NOT_WRITABLE);
+    CHECK(wire_write(0x42, counter, 3) == PD3120_WRONG_LENGTH);
+    CHECK(wire_write(0x42, zeros, 5) == PD3120_WRONG_LENGTH);
+    CHECK(pd3120_number(wire_read(0x42, 3)) == PD3120_BUFFER_TOO_SHORT);
+    CHECK(wire_write(0x49, settings, 4) == PD3120_NOT_ENABLED);
+    CHECK(wire_write(0x0D, two, 1) == PD3120_NOT_ALLOWED);
+    CHECK(alike(box, &before));
+
+    /* A refusal starts the watchdog again: 10 s, less one tick, and 10 s once more. */
+    static const uint8_t ticked[4] = {0x41, 0x1F, 0x80, 0}, full[4] = {0x41, 0x20, 0, 0};
+    pd3120_tick(box);
+    CHECK(reads(0x08, ticked, 4));
+    pd3120_tick(box);
+    CHECK(pd3120_number(wire_read(0x120, ROOM)) == PD3120_BEYOND);
+    CHECK(reads(0x08, full, 4));
+
+    /* What is written is read, into a buffer of the exact length and into a longer one. */
+    CHECK(wire_write(0x42, counter, 4) == PD3120_DONE);
+    CHECK(pd3120_length(wire_read(0x42, 4)) == 4 && memcmp(lent, counter, 4) == 0);
+    CHECK(reads(0x42, counter, 4));
+    CHECK(wire_write(0x0D, yes, 1) == PD3120_DONE);
+    CHECK(reads(0x0D, yes, 1));
+    CHECK(wire_write(0x49, settings, 4) == PD3120_DONE);
+    CHECK(reads(0x49, settings, 4));
+    CHECK(reads(0x4C, image + 10 + 3 * 44 + 20, 8));
+    CHECK(reads(0x00, (const uint8_t[]){0x01, 0x1F}, 2));
+
+    /* GeneralError: His bit 7 of the power-up, until CommonError is written with zeros. */
+    uint32_t code = wire_read(0x42, 4);
+    CHECK(!pd3120_data_error(code) && pd3120_general_error(code));
+    CHECK(wire_write(0x0F, zeros, 12) == PD3120_DONE);
+    code = wire_read(0x42, 4);
+    CHECK(!pd3120_data_error(code) && !pd3120_general_error(code));
+    /* DataError: PrgError, as an input has no OutFlag. A refusal shows both as well. */
+    CHECK(wire_write(0x59, input, 4) == PD3120_DONE);
+    CHECK(pd3120_write(box, 0x50, on, 1) == (PD3120_DONE | 1u << 24 | 1u << 25));
+    code = wire_read(0x42, 4);
+    CHECK(pd3120_data_error(code) && pd3120_general_error(code));
+    code = wire_read(0x120, 4);
+    CHECK(code == (PD3120_BEYOND | 1u << 24 | 1u << 25));
+}
+
+void samples(void)
+{
+    static const uint8_t on[1] = {0x80};
+    static const uint8_t one[4] = {0, 0, 0, 1}, three[4] = {0, 0, 0, 3};
+
+    CHECK(power_up(image, PD3120_IMAGE_SIZE) == PD3120_DONE);
+    pd3120_module before = *box;
+    static const uint8_t outside[] = {0, 17, 128, 255};
+    for (size_t i = 0; i < sizeof outside; i++) {
+        CHECK(pd3120_level(box, outside[i], true) == PD3120_NO_CHANNEL);
+        CHECK(pd3120_current(box, outside[i], 1.0f) == PD3120_NO_CHANNEL);
+        CHECK(!pd3120_output(box, outside[i]));
+    }
+    CHECK(pd3120_current(box, 1, NAN) == PD3120_NOT_FINITE);
+    CHECK(pd3120_current(box, 1, INFINITY) == PD3120_NOT_FINITE);
+    CHECK(pd3120_current(box, 16, -INFINITY) == PD3120_NOT_FINITE);
+    CHECK(alike(box, &before));
+
+    /* A level is any true or false of C. Counter of channel 1 is 1 in the image. */
+    int truth = 256;
+    CHECK(reads(0x12, one, 4));
+    CHECK(pd3120_level(box, 1, true) == PD3120_DONE);
+    CHECK(reads(0x10, (const uint8_t[]){0x40}, 1));
+    CHECK(pd3120_level(box, 1, true) == PD3120_DONE);
+    CHECK(pd3120_level(box, 1, false) == PD3120_DONE);
+    CHECK(reads(0x10, (const uint8_t[]){0x00}, 1));
+    CHECK(pd3120_level(box, 1, truth) == PD3120_DONE);
+    CHECK(reads(0x10, (const uint8_t[]){0x40}, 1));
+    CHECK(reads(0x12, three, 4));
+
+    /* A current arrives with all its bits. */
+    static const struct {
+        float amperes;
+        uint32_t bits;
+    } currents[] = {{1.5f, 0x3FC00000}, {-0.0f, 0x80000000}, {0x1p-149f, 1}, {0.1f, 0x3DCCCCCD}, {-0x1.fffffep127f, 0xFF7FFFFF}};
+    for (size_t i = 0; i < sizeof currents / sizeof currents[0]; i++) {
+        uint8_t bytes[4];
+        put32(bytes, currents[i].bits);
+        CHECK(pd3120_current(box, 16, currents[i].amperes) == PD3120_DONE);
+        CHECK(reads(0x103, bytes, 4));
+    }
+
+    /* Output follows OutFlag; 2 A does not trip, more does. */
+    CHECK(!pd3120_output(box, 16));
+    CHECK(wire_write(0x100, on, 1) == PD3120_DONE);
+    for (uint8_t channel = 0; channel < 255; channel++)
+        CHECK(pd3120_output(box, channel) == (channel == 16));
+    CHECK(pd3120_current(box, 16, 2.0f) == PD3120_DONE);
+    CHECK(pd3120_output(box, 16));
+    CHECK(pd3120_current(box, 16, 2.5f) == PD3120_DONE);
+    CHECK(!pd3120_output(box, 16));
+
+    /* Each tick adds 8 to FreeRunTimer. */
+    for (int tick = 0; tick < 3; tick++)
+        pd3120_tick(box);
+    CHECK(reads(0x07, (const uint8_t[]){0, 0, 0, 24}, 4));
+    CHECK(arena_intact());
+}
