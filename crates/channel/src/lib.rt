@@ -2,6 +2,9 @@
 // of its flags and settings do to it, and its kept values.
 ghost use mathlib.Core.Path.{_≡_};
 ghost use Rattle.model.specs.Channel.{setOverload, setPrgError, acknowledged, changed, inputBecomes, takeLevel, simulate, aboveTrip, tripped, takeCurrent, takeOut, takeControl, clearActs, flagRegWritten, outFlagsWritten, chConfigWritten, keepCounter, keepOperating, keepUser};
+
+pub mod choice;
+
 use model::Channel;
 use model::Config;
 use model::Currents;
@@ -42,16 +45,16 @@ pub fn acknowledge(ch: Channel) -> Channel
 pub fn change(was: bool, ch: Channel) -> Channel
     ensures { λ r. ⌜ r ≡ changed was ch ⌝ }
 {
-    if was == ch.flags.out {
-        return ch;
-    }
+    let same = was == ch.flags.out;
     let awaited = ch.flags.feedback | settings::has_reference(ch);
+    let feedback = choice::flag(same, ch.flags.feedback, awaited);
+    let running = ch.timers.feedback;
     let preset = ch.presets.feedback;
     let mut timers = ch.timers;
-    timers.feedback = preset;
+    timers.feedback = choice::timer(same, running, preset);
     let mut next = ch;
     next.timers = timers;
-    next.flags.feedback = awaited;
+    next.flags.feedback = feedback;
     next
 }
 

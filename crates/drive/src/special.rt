@@ -1,7 +1,8 @@
 // The special functions, each by the manual's precise description. InternalState is Control as the
 // special function last saw it, so that an edge is seen once.
 ghost use mathlib.Core.Path.{_≡_};
-ghost use Rattle.model.specs.Tick.{rose, reload, loaded, switchedOn, dropped, seen, timed, turned, oneShot, dutyCycle, timerOutput, special};
+ghost use Rattle.model.specs.Tick.{rose, loaded, switchedOn, dropped, seen, timed, turned, oneShot, dutyCycle, timerOutput, special};
+use channel::choice;
 use model::Channel;
 use model::Function;
 
@@ -11,50 +12,38 @@ fn rose(ch: Channel) -> bool
     !ch.flags.internal & ch.flags.control
 }
 
-// OutTimer := OutPreset.
-fn reload(ch: Channel) -> Channel
-    ensures { λ r. ⌜ r ≡ reload ch ⌝ }
-{
-    let preset = ch.presets.out;
-    let mut timers = ch.timers;
-    timers.out = preset;
-    let mut next = ch;
-    next.timers = timers;
-    next
-}
-
 // Control rose: OutTimer := OutPreset.
 fn load(ch: Channel) -> Channel
     ensures { λ r. ⌜ r ≡ loaded ch ⌝ }
 {
-    if rose(ch) {
-        return reload(ch);
-    }
-    ch
+    let running = ch.timers.out;
+    let preset = ch.presets.out;
+    let mut timers = ch.timers;
+    timers.out = choice::timer(rose(ch), preset, running);
+    let mut next = ch;
+    next.timers = timers;
+    next
 }
 
 // Control rose: OutTimer := OutPreset, and OutFlag := TRUE.
 fn switch_on(ch: Channel) -> Channel
     ensures { λ r. ⌜ r ≡ switchedOn ch ⌝ }
 {
-    if rose(ch) {
-        let mut next = reload(ch);
-        next.flags.out = true;
-        return next;
-    }
-    ch
+    let out = choice::flag(rose(ch), true, ch.flags.out);
+    let mut next = load(ch);
+    next.flags.out = out;
+    next
 }
 
 // Control fell: OutFlag := FALSE.
 fn drop_output(ch: Channel) -> Channel
     ensures { λ r. ⌜ r ≡ dropped ch ⌝ }
 {
-    if ch.flags.internal & !ch.flags.control {
-        let mut next = ch;
-        next.flags.out = false;
-        return next;
-    }
-    ch
+    let fell = ch.flags.internal & !ch.flags.control;
+    let out = choice::flag(fell, false, ch.flags.out);
+    let mut next = ch;
+    next.flags.out = out;
+    next
 }
 
 // InternalState := Control.
@@ -71,28 +60,27 @@ fn see_control(ch: Channel) -> Channel
 fn time_output(ch: Channel) -> Channel
     ensures { λ r. ⌜ r ≡ timed ch ⌝ }
 {
-    if ch.flags.control {
-        let timer = ch.timers.out;
-        let on = timer.positive();
-        let mut next = ch;
-        next.flags.out = on;
-        return next;
-    }
-    ch
+    let timer = ch.timers.out;
+    let out = choice::flag(ch.flags.control, timer.positive(), ch.flags.out);
+    let mut next = ch;
+    next.flags.out = out;
+    next
 }
 
 // Under Control, where OutTimer has run out: OutFlag turns, and OutTimer starts anew.
 fn turn_output(ch: Channel) -> Channel
     ensures { λ r. ⌜ r ≡ turned ch ⌝ }
 {
-    let timer = ch.timers.out;
-    if ch.flags.control & !timer.positive() {
-        let on = !ch.flags.out;
-        let mut next = ch;
-        next.flags.out = on;
-        return reload(next);
-    }
-    ch
+    let running = ch.timers.out;
+    let preset = ch.presets.out;
+    let turns = ch.flags.control & !running.positive();
+    let out = choice::flag(turns, !ch.flags.out, ch.flags.out);
+    let mut timers = ch.timers;
+    timers.out = choice::timer(turns, preset, running);
+    let mut next = ch;
+    next.timers = timers;
+    next.flags.out = out;
+    next
 }
 
 pub fn one_shot(ch: Channel) -> Channel

@@ -88,8 +88,8 @@ fn tick_channel(s: Shared, ran_out: bool, due: bool, levels: [bool; 16], ch: Cha
 fn tick_channels(s: Shared, ran_out: bool, due: bool, channels: [Channel; 16]) -> [Channel; 16]
     ensures { λ r. ⌜ r ≡ channelsTicked s «ran_out» due channels ⌝ }
 {
-    let start = levels(channels);
     let mut next = channels;
+    let start = levels(next);
     for k in 0..16 {
         let ch = next[k];
         let after = tick_channel(s, ran_out, due, start, ch);

@@ -31,3 +31,13 @@ right false b t = t
 
 pub range : (k : ℕ) → digital k ≡ true → (1 ≤ k) × (k ≤ 16)
 range k e = let (p, q) = both (leb 1 k) (leb k 16) e in (leb-true 1 k p, leb-true k 16 q)
+
+-- what is made of a choice is chosen by the same test
+pub picked : {A B : Type 0} (f : A → B) (b : Bool) (x y : A) → f (cond b x y) ≡ cond b (f x) (f y)
+picked f true x y = refl
+picked f false x y = refl
+
+-- what is put together from two choices by one test is chosen by that test
+pub chosen : {A B C : Type 0} (f : A → B → C) (b : Bool) (x y : A) (x′ y′ : B) → f (cond b x y) (cond b x′ y′) ≡ cond b (f x x′) (f y y′)
+chosen f true x y x′ y′ = refl
+chosen f false x y x′ y′ = refl

@@ -16,10 +16,10 @@ use Rattle.ticks.proofs.tick_channels.Statement.{statement}
 use Rattle.ticks.proofs.tick_channels.Tie as tie
 
 abbrev Inv-loop : tie.InvT-loop
-Inv-loop s ran-out due start next₀ k₀ next k = (k ≤ 16) × (next ≡ filled (below k) (λ (j : ℕ). channelTicked s ran-out due start) next₀ next₀)
+Inv-loop s ran-out due next₀ start k₀ next k = (k ≤ 16) × (next ≡ filled (below k) (λ (j : ℕ). channelTicked s ran-out due start) next₀ next₀)
 
 abbrev μ-loop : tie.MeasureT-loop
-μ-loop s ran-out due start next₀ k₀ next k = 16 - k
+μ-loop s ran-out due next₀ start k₀ next k = 16 - k
 
 levels-requires : tie.Need-levels-requires Inv-loop μ-loop
 levels-requires c κs = search needs

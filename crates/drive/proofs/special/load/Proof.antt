@@ -1,20 +1,22 @@
--- `special::load` meets its contract. Assumes nothing.
+-- `special::load` meets its contract: OutTimer is chosen. Assumes nothing.
 use borrow.Author.Needs.{needs}
-use mathlib.Core.Path.{sym, _∙_}
+use Rattle.counts.specs.declared.TimerCount.{TimerCount}
+use Rattle.model.specs.State.{setOutTimer}
+use Rattle.model.specs.Tick.{rose}
+use Rattle.model.proofs.Laws.Tests.{picked}
 use Rattle.drive.proofs.special.load.Statement.{statement}
 use Rattle.drive.proofs.special.load.Tie as tie
 
 rose-requires : tie.Need-rose-requires
 rose-requires c κs = search needs
 
-reload-requires : tie.Need-reload-requires
-reload-requires c κs = search needs
+timer-requires : tie.Need-timer-requires
+timer-requires c κs = search needs
 
 returns : tie.Need-returns
-returns c = simp (c .reload .ensures, sym (c .before .before .rose .ensures) ∙ c .before .if1 .taken)
-
-returns-2 : tie.Need-returns-2
-returns-2 c = simp (sym (c .before .rose .ensures) ∙ c .if1 .left)
+returns c =
+    let ch = c .before .before .before .before .before .args .ch in
+    rw (c .timer .ensures, c .before .rose .ensures) (picked (λ (t : TimerCount). setOutTimer t ch) (rose ch) (ch .presets .out) (ch .timers .out))
 
 pub load-spec : {M : Type 1} → statement M
-load-spec = tie.close (tie.spec rose-requires reload-requires returns returns-2)
+load-spec = tie.close (tie.spec rose-requires timer-requires returns)
