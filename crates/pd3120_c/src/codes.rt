@@ -15,7 +15,7 @@ fn weigh(set: bool, weight: u32) -> u32
     if set { weight } else { 0 }
 }
 
-pub fn pack(reply: Reply, data_error: bool, general_error: bool) -> u32
+pub(crate) fn pack(reply: Reply, data_error: bool, general_error: bool) -> u32
     requires { ⌜ lengthOf reply ≤ imageSize ⌝ }
     ensures { λ r. ⌜ r ≡ replyCode reply «data_error» «general_error» ⌝ }
 {

@@ -7,13 +7,21 @@ use script::parameters::Wrong;
 use script::print;
 
 // NAME NUMBER
-pub fn put_plain(out: &mut [u8], at: usize, name: &[u8], reply: Reply) -> usize
+fn put_head(out: &mut [u8], at: usize, name: &[u8], reply: Reply) -> usize
     requires { ⌜ at ≤ length (now out) ⌝ }
     ensures { λ r. ⌜ r ≤ length (now (out .exit)) ⌝ }
 {
-    let t1 = print::put(out, at, name);
-    let t2 = print::put_number(out, t1, replies::number(reply) as u64);
-    print::put(out, t2, b"\n")
+    let to = print::put(out, at, name);
+    print::put_number(out, to, replies::number(reply) as u64)
+}
+
+// NAME NUMBER, and no more.
+pub(crate) fn put_plain(out: &mut [u8], at: usize, name: &[u8], reply: Reply) -> usize
+    requires { ⌜ at ≤ length (now out) ⌝ }
+    ensures { λ r. ⌜ r ≤ length (now (out .exit)) ⌝ }
+{
+    let to = put_head(out, at, name, reply);
+    print::put(out, to, b"\n")
 }
 
 // NAME NUMBER LENGTH
@@ -21,9 +29,8 @@ fn put_start(out: &mut [u8], at: usize, name: &[u8], reply: Reply) -> usize
     requires { ⌜ at ≤ length (now out) ⌝ }
     ensures { λ r. ⌜ r ≤ length (now (out .exit)) ⌝ }
 {
-    let t1 = print::put(out, at, name);
-    let t2 = print::put_number(out, t1, replies::number(reply) as u64);
-    print::put_number(out, t2, replies::length(reply) as u64)
+    let to = put_head(out, at, name, reply);
+    print::put_number(out, to, replies::length(reply) as u64)
 }
 
 // BUFFER, which ends the line.
@@ -36,7 +43,7 @@ fn put_buffer(out: &mut [u8], at: usize, buffer: &[u8]) -> usize
 }
 
 // store NUMBER LENGTH BUFFER
-pub fn put_store(out: &mut [u8], at: usize, reply: Reply, buffer: &[u8]) -> usize
+pub(crate) fn put_store(out: &mut [u8], at: usize, reply: Reply, buffer: &[u8]) -> usize
     requires { ⌜ at ≤ length (now out) ⌝ }
     ensures { λ r. ⌜ r ≤ length (now (out .exit)) ⌝ }
 {
@@ -54,7 +61,7 @@ fn put_bits(out: &mut [u8], at: usize, data_error: bool, general_error: bool) ->
 }
 
 // read NUMBER LENGTH DATAERROR GENERALERROR BUFFER
-pub fn put_read(
+pub(crate) fn put_read(
     out: &mut [u8],
     at: usize,
     reply: Reply,
@@ -71,7 +78,7 @@ pub fn put_read(
 }
 
 // write NUMBER 0 DATAERROR GENERALERROR
-pub fn put_write(
+pub(crate) fn put_write(
     out: &mut [u8],
     at: usize,
     reply: Reply,
@@ -104,7 +111,7 @@ fn put_why(out: &mut [u8], at: usize, why: Wrong) -> usize
 }
 
 // error LINE: WHY
-pub fn put_error(out: &mut [u8], at: usize, line: u64, why: Wrong) -> usize
+pub(crate) fn put_error(out: &mut [u8], at: usize, line: u64, why: Wrong) -> usize
     requires { ⌜ at ≤ length (now out) ⌝ }
     ensures { λ r. ⌜ r ≤ length (now (out .exit)) ⌝ }
 {

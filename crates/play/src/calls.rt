@@ -122,7 +122,7 @@ fn tick(m: Module, n: u32, out: &mut [u8], at: usize) -> Played
 }
 
 // Makes what a line asks for; bytes are the image, the written bytes or the lent buffer.
-pub fn perform(
+pub(crate) fn perform(
     m: Module,
     line: Line,
     number: u64,

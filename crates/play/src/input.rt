@@ -187,7 +187,13 @@ fn keep_rest(p: Player, text: &mut [u8], used: usize, full: usize) -> Turn
     }
 }
 
-pub fn take_turn(p: Player, text: &mut [u8], have: usize, space: &mut [u8], out: &mut [u8]) -> Turn
+pub(crate) fn take_turn(
+    p: Player,
+    text: &mut [u8],
+    have: usize,
+    space: &mut [u8],
+    out: &mut [u8],
+) -> Turn
     requires { ⌜ have ≤ length (now text) ⌝ }
     ensures { λ r. ⌜ r .have ≤ length (now (text .exit)) ⌝ }
 {

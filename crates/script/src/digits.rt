@@ -33,7 +33,7 @@ pub struct Number {
 }
 
 // The number that a word of digits writes.
-pub fn parse_number(word: &[u8], base: u64, highest: u32) -> Number
+pub(crate) fn parse_number(word: &[u8], base: u64, highest: u32) -> Number
     requires { ⌜ base ≤ 16 ⌝ }
     ensures { λ r. ⌜ r .value ≤ highest ⌝ }
 {

@@ -26,7 +26,7 @@ fn separates(b: u8) -> bool {
 }
 
 // The first place from `at` on where separators, or else a word, have ended, or the length.
-pub fn skip(s: &[u8], at: usize, separators: bool) -> usize
+pub(crate) fn skip(s: &[u8], at: usize, separators: bool) -> usize
     requires { ⌜ at ≤ length (now s) ⌝ }
     ensures { λ r. ⌜ (at ≤ r) × (r ≤ length (now (s .entry))) ⌝ }
 {
