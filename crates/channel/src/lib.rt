@@ -5,6 +5,7 @@ ghost use Rattle.model.specs.Channel.{setOverload, setPrgError, acknowledged, c
 
 pub mod choice;
 
+use counts::TimerCount;
 use model::Channel;
 use model::Config;
 use model::Currents;
@@ -50,8 +51,9 @@ pub fn change(was: bool, ch: Channel) -> Channel
     let feedback = choice::flag(same, ch.flags.feedback, awaited);
     let running = ch.timers.feedback;
     let preset = ch.presets.feedback;
+    let timer = TimerCount(choice::count(same, running.0, preset.0));
     let mut timers = ch.timers;
-    timers.feedback = choice::timer(same, running, preset);
+    timers.feedback = timer;
     let mut next = ch;
     next.timers = timers;
     next.flags.feedback = feedback;

@@ -3,6 +3,7 @@
 ghost use mathlib.Core.Path.{_≡_};
 ghost use Rattle.model.specs.Tick.{rose, loaded, switchedOn, dropped, seen, timed, turned, oneShot, dutyCycle, timerOutput, special};
 use channel::choice;
+use counts::TimerCount;
 use model::Channel;
 use model::Function;
 
@@ -18,8 +19,9 @@ fn load(ch: Channel) -> Channel
 {
     let running = ch.timers.out;
     let preset = ch.presets.out;
+    let timer = TimerCount(choice::count(rose(ch), preset.0, running.0));
     let mut timers = ch.timers;
-    timers.out = choice::timer(rose(ch), preset, running);
+    timers.out = timer;
     let mut next = ch;
     next.timers = timers;
     next
@@ -75,8 +77,9 @@ fn turn_output(ch: Channel) -> Channel
     let preset = ch.presets.out;
     let turns = ch.flags.control & !running.positive();
     let out = choice::flag(turns, !ch.flags.out, ch.flags.out);
+    let timer = TimerCount(choice::count(turns, preset.0, running.0));
     let mut timers = ch.timers;
-    timers.out = choice::timer(turns, preset, running);
+    timers.out = timer;
     let mut next = ch;
     next.timers = timers;
     next.flags.out = out;

@@ -2,6 +2,7 @@
 use borrow.Author.Needs.{needs}
 use mathlib.Core.Bool.{Bool, Bool·beq, _||_}
 use Rattle.counts.specs.declared.TimerCount.{TimerCount}
+use Rattle.counts.proofs.Laws.Reads.{chosen-timer}
 use Rattle.model.specs.State.{setFBTimer, setFBStatus}
 use Rattle.model.specs.Settings.{hasReference}
 use Rattle.model.specs.Channel.{changed}
@@ -15,16 +16,19 @@ has-reference-requires c κs = search needs
 flag-requires : tie.Need-flag-requires
 flag-requires c κs = search needs
 
-timer-requires : tie.Need-timer-requires
-timer-requires c κs = search needs
+count-requires : tie.Need-count-requires
+count-requires c κs = search needs
 
 returns : tie.Need-returns
 unfolding changed
 returns c =
-    let a = c .before .before .before .before .before .before .before .before .before .args in
+    let s = c .before .before in
+    let a = s .before .before .before .before .before .before .before .before .before .args in
     let ch = a .ch in
-    rw (c .before .timer .ensures, c .before .before .before .before .before .flag .ensures, c .before .before .before .before .before .before .before .has-reference .ensures)
-    (chosen (λ (t : TimerCount) (b : Bool). setFBStatus b (setFBTimer t ch)) (Bool·beq (a .was) (ch .flags .out)) (ch .timers .feedback) (ch .presets .feedback) (ch .flags .feedback) (ch .flags .feedback || hasReference ch))
+    let same = Bool·beq (a .was) (ch .flags .out) in
+    let timer = chosen-timer same (ch .timers .feedback) (ch .presets .feedback) (s .count .ensures) (search needs) (search needs) (search needs) in
+    rw (timer, s .before .before .before .before .before .flag .ensures, s .before .before .before .before .before .before .before .has-reference .ensures)
+    (chosen (λ (t : TimerCount) (b : Bool). setFBStatus b (setFBTimer t ch)) same (ch .timers .feedback) (ch .presets .feedback) (ch .flags .feedback) (ch .flags .feedback || hasReference ch))
 
 pub change-spec : {M : Type 1} → statement M
-change-spec = tie.close (tie.spec has-reference-requires flag-requires timer-requires returns)
+change-spec = tie.close (tie.spec has-reference-requires flag-requires count-requires returns)

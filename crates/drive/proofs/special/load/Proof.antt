@@ -1,6 +1,7 @@
 -- `special::load` meets its contract: OutTimer is chosen. Assumes nothing.
 use borrow.Author.Needs.{needs}
 use Rattle.counts.specs.declared.TimerCount.{TimerCount}
+use Rattle.counts.proofs.Laws.Reads.{chosen-timer}
 use Rattle.model.specs.State.{setOutTimer}
 use Rattle.model.specs.Tick.{rose}
 use Rattle.model.proofs.Laws.Tests.{picked}
@@ -10,13 +11,15 @@ use Rattle.drive.proofs.special.load.Tie as tie
 rose-requires : tie.Need-rose-requires
 rose-requires c κs = search needs
 
-timer-requires : tie.Need-timer-requires
-timer-requires c κs = search needs
+count-requires : tie.Need-count-requires
+count-requires c κs = search needs
 
 returns : tie.Need-returns
 returns c =
-    let ch = c .before .before .before .before .before .args .ch in
-    rw (c .timer .ensures, c .before .rose .ensures) (picked (λ (t : TimerCount). setOutTimer t ch) (rose ch) (ch .presets .out) (ch .timers .out))
+    let s = c .before .before .before .before in
+    let ch = s .before .before .before .args .ch in
+    let timer = chosen-timer (s .rose .result) (ch .presets .out) (ch .timers .out) (c .before .count .ensures) (search needs) (search needs) (search needs) in
+    rw (timer, s .rose .ensures) (picked (λ (t : TimerCount). setOutTimer t ch) (rose ch) (ch .presets .out) (ch .timers .out))
 
 pub load-spec : {M : Type 1} → statement M
-load-spec = tie.close (tie.spec rose-requires timer-requires returns)
+load-spec = tie.close (tie.spec rose-requires count-requires returns)
