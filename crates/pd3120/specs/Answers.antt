@@ -1,12 +1,14 @@
 -- The public answers beside the model's. The paper's number and length of a reply are `numberOf` and `lengthOf` of the model's Questions. Definitions only.
 use mathlib.Core.Path.{_≡_}
-use mathlib.Core.Bool.{Bool, _&&_}
+use mathlib.Core.Bool.{Bool, cond, _&&_}
 use mathlib.Core.List.{List}
-use Prim.Native.Nat.{ℕ}
+use Prim.Native.Nat.{ℕ, _-_}
 use Rattle.model.specs.declared.Call.{Call}
 use Rattle.model.specs.declared.Call.the-variants.{Read, Write, Level, Current, Tick}
+use Rattle.model.specs.declared.Channel.{Channel}
 use Rattle.model.specs.declared.Module.{Module}
-use Rattle.model.specs.declared.Reply.the-variants.{Done}
+use Rattle.model.specs.declared.Reply.{Reply}
+use Rattle.model.specs.declared.Reply.the-variants.{Done, Refused}
 use Rattle.model.specs.State.{channelAt}
 use Rattle.model.specs.Settings.{digital, output}
 use Rattle.model.specs.Questions.{powerUpReply}
@@ -15,6 +17,7 @@ use Rattle.model.specs.Image.{setupOf, encode}
 use Rattle.model.specs.TwoLists.{LearnsNothing}
 use Rattle.pd3120.specs.declared.Answered.{Answered}
 use Rattle.pd3120.specs.declared.Sampled.{Sampled}
+use Rattle.pd3120.specs.declared.samples.Taken.{Taken}
 use Rattle.pd3120.specs.declared.Started.{Started}
 
 -- what a wire call answers: its reply, DataError and GeneralError; and the box that it leaves
@@ -24,6 +27,15 @@ answeredBy s = record { after = s .box; reply = s .answer .reply; «data_error»
 -- "A sample answers its number alone"
 abbrev pub sampledBy : Stepped → Sampled
 sampledBy s = record { after = s .box; reply = s .answer .reply }
+
+-- the place of a sample's channel, counted from 0; that of channel 1 where the number is no channel's
+abbrev pub sampleSlot : ℕ → ℕ
+sampleSlot k = cond (digital k) (k - 1) 0
+
+-- what a sample answers, and its channel after it: next where it is done, and ch as it was where it is refused
+abbrev pub takenBy : Reply → Channel → Channel → Taken
+takenBy (Done n) next ch = record { after = next; reply = Done n }
+takenBy (Refused w) next ch = record { after = ch; reply = Refused w }
 
 -- Output of channel k, off where there is none
 abbrev pub outputAt : Module → ℕ → Bool

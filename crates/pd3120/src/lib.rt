@@ -8,7 +8,7 @@ ghost use Rattle.model.specs.Calls.{read, write, level, current, step, cleared,
 ghost use Rattle.pd3120.specs.Answers.{answeredBy, sampledBy, outputAt, requestOf, lentAfter, PoweredUp};
 
 pub mod replies;
-mod samples;
+pub mod samples;
 
 use model::Call;
 use model::Module;
@@ -113,32 +113,34 @@ pub fn write(m: Module, swno: u16, bytes: &[u8]) -> Answered
 pub fn level(m: Module, channel: u8, on: bool) -> Sampled
     ensures { λ r. ⌜ r ≡ sampledBy (step m (level channel on)) ⌝ }
 {
-    let reply = questions::level_reply(channel);
-    match reply {
-        Reply::Done(_) => Sampled {
-            after: samples::put_level(m, channel, on),
-            reply: reply,
-        },
-        Reply::Refused(_) => Sampled {
-            after: m,
-            reply: reply,
-        },
+    let at = samples::slot(channel);
+    let ch = m.channels[at];
+    let shared = m.shared;
+    let taken = samples::take_level(shared, ch, channel, on);
+    let left = taken.after;
+    let reply = taken.reply;
+    let mut next = m;
+    next.channels[at] = left;
+    Sampled {
+        after: next,
+        reply: reply,
     }
 }
 
 pub fn current(m: Module, channel: u8, amperes: f32) -> Sampled
     ensures { λ r. ⌜ r ≡ sampledBy (step m (current channel amperes)) ⌝ }
 {
-    let reply = questions::current_reply(channel, amperes);
-    match reply {
-        Reply::Done(_) => Sampled {
-            after: samples::put_current(m, channel, amperes),
-            reply: reply,
-        },
-        Reply::Refused(_) => Sampled {
-            after: m,
-            reply: reply,
-        },
+    let at = samples::slot(channel);
+    let ch = m.channels[at];
+    let shared = m.shared;
+    let taken = samples::take_current(shared, ch, channel, amperes);
+    let left = taken.after;
+    let reply = taken.reply;
+    let mut next = m;
+    next.channels[at] = left;
+    Sampled {
+        after: next,
+        reply: reply,
     }
 }
 

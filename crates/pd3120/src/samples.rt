@@ -1,29 +1,64 @@
-// What an accepted sample does to its channel.
+// What a sample does to its channel, for a caller that holds the box in its own memory and puts the
+// channel back itself.
 ghost use mathlib.Core.Path.{_≡_};
-ghost use Prim.Native.Nat.{_≤_};
-ghost use Rattle.model.specs.State.{channelAt, putChannel};
+ghost use Prim.Native.Nat.{_<_};
 ghost use Rattle.model.specs.Channel.{takeLevel, takeCurrent};
-use model::Module;
+ghost use Rattle.model.specs.Questions.{levelReply, currentReply};
+ghost use Rattle.pd3120.specs.Answers.{sampleSlot, takenBy};
+use model::Channel;
+use model::Reply;
+use model::Shared;
 
-pub(crate) fn put_level(m: Module, channel: u8, on: bool) -> Module
-    requires { ⌜ (1 ≤ channel) × (channel ≤ 16) ⌝ }
-    ensures { λ r. ⌜ r ≡ putChannel channel (takeLevel on (channelAt m channel)) m ⌝ }
-{
-    let at = (channel as usize) - 1;
-    let ch = m.channels[at];
-    let mut next = m;
-    next.channels[at] = channel::take_level(on, ch);
-    next
+// What a sample answers, and the channel that it leaves.
+pub struct Taken {
+    pub after: Channel,
+    pub reply: Reply,
 }
 
-pub(crate) fn put_current(m: Module, channel: u8, amperes: f32) -> Module
-    requires { ⌜ (1 ≤ channel) × (channel ≤ 16) ⌝ }
-    ensures { λ r. ⌜ r ≡ putChannel channel (takeCurrent (m .shared) amperes (channelAt m channel)) m ⌝ }
+// The channel's place, counted from 0. For a number that is no channel's it is that of channel 1,
+// which the refused sample leaves as it is.
+pub fn slot(channel: u8) -> usize
+    ensures { λ r. ⌜ (r ≡ sampleSlot channel) × (r < 16) ⌝ }
 {
-    let at = (channel as usize) - 1;
-    let ch = m.channels[at];
-    let shared = m.shared;
-    let mut next = m;
-    next.channels[at] = channel::take_current(shared, amperes, ch);
-    next
+    let k = channel as usize;
+    if k < 1 {
+        return 0;
+    }
+    if 16 < k {
+        return 0;
+    }
+    k - 1
+}
+
+// A level does not look at s; both samples have one shape.
+pub fn take_level(s: Shared, ch: Channel, channel: u8, on: bool) -> Taken
+    ensures { λ r. ⌜ r ≡ takenBy (levelReply channel) (takeLevel on ch) ch ⌝ }
+{
+    let reply = questions::level_reply(channel);
+    match reply {
+        Reply::Done(_) => Taken {
+            after: channel::take_level(on, ch),
+            reply: reply,
+        },
+        Reply::Refused(_) => Taken {
+            after: ch,
+            reply: reply,
+        },
+    }
+}
+
+pub fn take_current(s: Shared, ch: Channel, channel: u8, amperes: f32) -> Taken
+    ensures { λ r. ⌜ r ≡ takenBy (currentReply channel amperes) (takeCurrent s amperes ch) ch ⌝ }
+{
+    let reply = questions::current_reply(channel, amperes);
+    match reply {
+        Reply::Done(_) => Taken {
+            after: channel::take_current(s, amperes, ch),
+            reply: reply,
+        },
+        Reply::Refused(_) => Taken {
+            after: ch,
+            reply: reply,
+        },
+    }
 }

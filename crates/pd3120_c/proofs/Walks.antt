@@ -1,8 +1,12 @@
+pub mod Box
+pub mod Element
 pub mod Input
 pub mod Output
 pub mod Plain
 pub mod PowerUp
 pub mod Read
+pub mod Rows
+pub mod Sample
 pub mod Store
 pub mod Tick
 pub mod Types

@@ -7,6 +7,8 @@ use Rattle.model.specs.declared.Module.{Module}
 use Rattle.model.specs.declared.Reply.{Reply}
 use Rattle.model.specs.Questions.{numberOf, lengthOf, powerUpReply, storeReply}
 use Rattle.model.specs.Calls.{tick, Answer, plainAnswer, Stepped, step, powerUp, stored}
+use Rattle.pd3120.specs.declared.samples.Taken.{Taken}
+use Rattle.pd3120_c.specs.declared.ChannelDone.{ChannelDone}
 use Rattle.pd3120_c.specs.declared.Done.{Done}
 
 -- bits 0 to 7 the number, bits 8 to 23 the length, bit 24 DataError, bit 25 GeneralError
@@ -29,6 +31,10 @@ answerCode a = replyCode (a .reply) (a .data-error) (a .general-error)
 -- the module that a call leaves, and the code of its answer
 abbrev pub doneBy : Stepped → Done
 doneBy s = record { after = s .box; code = answerCode (s .answer) }
+
+-- the same of a sample's channel
+abbrev pub channelDone : Taken → ChannelDone
+channelDone t = record { after = t .after; code = replyCode (t .reply) false false }
 
 abbrev pub LentBy : Stepped → Done → List ℕ → Type 0
 LentBy s d lent′ = (d ≡ doneBy s) × (lent′ ≡ s .answer .buffer)

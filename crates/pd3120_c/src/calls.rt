@@ -1,11 +1,18 @@
 // The calls of the library with their answers packed: what each exported function does with a copy
-// of the caller's module.
+// of the caller's module, or with a copy of the parts that it needs.
 ghost use mathlib.Core.Path.{_≡_};
-ghost use Rattle.model.specs.Calls.{read, write, level, current, step};
-ghost use Rattle.pd3120_c.specs.Codes.{started, doneBy, LentBy, Stored};
+ghost use Rattle.model.specs.Calls.{read, write, step};
+ghost use Rattle.model.specs.Channel.{takeLevel, takeCurrent};
+ghost use Rattle.model.specs.Questions.{levelReply, currentReply};
+ghost use Rattle.pd3120.specs.Answers.{takenBy};
+ghost use Rattle.pd3120_c.specs.Codes.{started, doneBy, channelDone, LentBy, Stored};
+use crate::ChannelDone;
 use crate::Done;
 use crate::codes;
+use model::Channel;
 use model::Module;
+use model::Shared;
+use pd3120::samples;
 
 pub fn power_up(img: &[u8]) -> Done
     ensures { λ r. ⌜ r ≡ doneBy (started (now (img .entry))) ⌝ }
@@ -50,25 +57,25 @@ pub fn write(m: Module, swno: u16, bytes: &[u8]) -> Done
     }
 }
 
-pub fn level(m: Module, channel: u8, on: bool) -> Done
-    ensures { λ r. ⌜ r ≡ doneBy (step m (level channel on)) ⌝ }
+pub fn level(s: Shared, ch: Channel, channel: u8, on: bool) -> ChannelDone
+    ensures { λ r. ⌜ r ≡ channelDone (takenBy (levelReply channel) (takeLevel on ch) ch) ⌝ }
 {
-    let sampled = pd3120::level(m, channel, on);
-    let after = sampled.after;
-    let reply = sampled.reply;
-    Done {
+    let taken = samples::take_level(s, ch, channel, on);
+    let after = taken.after;
+    let reply = taken.reply;
+    ChannelDone {
         after: after,
         code: codes::pack(reply, false, false),
     }
 }
 
-pub fn current(m: Module, channel: u8, amperes: f32) -> Done
-    ensures { λ r. ⌜ r ≡ doneBy (step m (current channel amperes)) ⌝ }
+pub fn current(s: Shared, ch: Channel, channel: u8, amperes: f32) -> ChannelDone
+    ensures { λ r. ⌜ r ≡ channelDone (takenBy (currentReply channel amperes) (takeCurrent s amperes ch) ch) ⌝ }
 {
-    let sampled = pd3120::current(m, channel, amperes);
-    let after = sampled.after;
-    let reply = sampled.reply;
-    Done {
+    let taken = samples::take_current(s, ch, channel, amperes);
+    let after = taken.after;
+    let reply = taken.reply;
+    ChannelDone {
         after: after,
         code: codes::pack(reply, false, false),
     }

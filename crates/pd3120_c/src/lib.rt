@@ -9,11 +9,19 @@ ghost use Rattle.pd3120_c.specs.Codes.{started, Left, LeftLent, Ticked, 
 mod calls;
 mod codes;
 
+use model::Channel;
 use model::Module;
+use pd3120::samples;
 
 // The module that a call leaves, and the code of its answer.
 pub struct Done {
     pub after: Module,
+    pub code: u32,
+}
+
+// The channel that a sample leaves, and the code of its answer.
+pub struct ChannelDone {
+    pub after: Channel,
     pub code: u32,
 }
 
@@ -57,8 +65,9 @@ pub extern "C" fn pd3120_write(m: &mut Module, swno: u16, bytes: &[u8]) -> u32
 pub extern "C" fn pd3120_level(m: &mut Module, channel: u8, on: bool) -> u32
     ensures { λ r. ⌜ Left (step (now (m .entry)) (level channel on)) (now (m .exit)) r ⌝ }
 {
-    let done = calls::level(*m, channel, on);
-    *m = done.after;
+    let at = samples::slot(channel);
+    let done = calls::level(m.shared, m.channels[at], channel, on);
+    m.channels[at] = done.after;
     done.code
 }
 
@@ -66,8 +75,9 @@ pub extern "C" fn pd3120_level(m: &mut Module, channel: u8, on: bool) -> u32
 pub extern "C" fn pd3120_current(m: &mut Module, channel: u8, amperes: f32) -> u32
     ensures { λ r. ⌜ Left (step (now (m .entry)) (current channel amperes)) (now (m .exit)) r ⌝ }
 {
-    let done = calls::current(*m, channel, amperes);
-    *m = done.after;
+    let at = samples::slot(channel);
+    let done = calls::current(m.shared, m.channels[at], channel, amperes);
+    m.channels[at] = done.after;
     done.code
 }
 

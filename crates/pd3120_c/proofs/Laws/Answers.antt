@@ -1,22 +1,27 @@
 -- An answer packed: the module and the code of the model's step, from what the library's call and the packing give. Assumes nothing.
 use mathlib.Core.Path.{_≡_, refl, ap}
-use mathlib.Core.Bool.{Bool, false}
+use mathlib.Core.Bool.{Bool, true, false}
 use mathlib.Core.List.{List}
 use Prim.Native.Nat.{ℕ}
 use lib.Ieee.{Float}
+use lib.ListN.{getD, set}
 use Rattle.model.specs.declared.Channel.{Channel}
 use Rattle.model.specs.declared.Module.{Module}
 use Rattle.model.specs.declared.Reply.{Reply}
 use Rattle.model.specs.declared.Reply.the-variants.{Done as Accepted, Refused}
-use Rattle.model.specs.State.{channelAt}
+use Rattle.model.specs.State.{nothing, channelAt, withChannels}
+use Rattle.model.specs.Settings.{digital}
 use Rattle.model.specs.Channel.{takeLevel, takeCurrent}
 use Rattle.model.specs.Questions.{levelReply, currentReply, powerUpReply}
 use Rattle.model.specs.Calls.{level, current, Stepped, sampledAs, step, powerUp}
 use Rattle.pd3120.specs.declared.Answered.{Answered}
 use Rattle.pd3120.specs.declared.Sampled.{Sampled}
-use Rattle.pd3120.specs.Answers.{answeredBy, sampledBy}
+use Rattle.pd3120.specs.declared.samples.Taken.{Taken}
+use Rattle.pd3120.specs.Answers.{answeredBy, sampleSlot, takenBy}
+use Rattle.pd3120.proofs.Laws.Samples.{sampleAt, put-back, level-digital, current-digital}
+use Rattle.pd3120_c.specs.declared.ChannelDone.{ChannelDone}
 use Rattle.pd3120_c.specs.declared.Done.{Done}
-use Rattle.pd3120_c.specs.Codes.{replyCode, doneBy, started, Left}
+use Rattle.pd3120_c.specs.Codes.{replyCode, answerCode, doneBy, channelDone, started, Left}
 
 -- what the caller has of such a pair
 pub left : (s : Stepped) (d : Done) → d ≡ doneBy s → Left s (d .after) (d .code)
@@ -26,25 +31,34 @@ pub wire-done : (s : Stepped) (a : Answered) (code : ℕ) → a ≡ answeredBy s
     → record { after = a .after; code = code } ≡ doneBy s
 wire-done s a code e f = rw (f, e)
 
+-- a sample's channel
+pub taken-done : (t u : Taken) (code : ℕ) → t ≡ u → code ≡ replyCode (t .reply) false false → record { after = t .after; code = code } ≡ channelDone u
+taken-done t u code e f = rw (f, e)
+
 -- a sample answers no bits
-sample-cases : (r : Reply) (k : ℕ) (ch : Channel) (m : Module)
-    → record { after = sampledAs r k ch m .box; code = replyCode (sampledAs r k ch m .answer .reply) false false } ≡ doneBy (sampledAs r k ch m)
-sample-cases (Accepted n) k ch m = refl
-sample-cases (Refused w) k ch m = refl
+sample-code : (r : Reply) (k : ℕ) (next ch put : Channel) (m : Module) → replyCode (takenBy r next ch .reply) false false ≡ answerCode (sampledAs r k put m .answer)
+sample-code (Accepted n) k next ch put m = refl
+sample-code (Refused w) k next ch put m = refl
 
-sample-done : (r : Reply) (k : ℕ) (ch : Channel) (m : Module) (s : Sampled) (code : ℕ) → s ≡ sampledBy (sampledAs r k ch m)
-    → code ≡ replyCode (s .reply) false false → record { after = s .after; code = code } ≡ doneBy (sampledAs r k ch m)
-sample-done r k ch m s code e f = rw (f, e) (sample-cases r k ch m)
+-- the caller has the sample's channel put back at its place
+sample-left : (r : Reply) (k : ℕ) (f : Channel → Channel) (m : Module) → ((n : ℕ) → r ≡ Accepted n → digital k ≡ true) → (at : ℕ) (d : ChannelDone) → at ≡ sampleSlot k
+    → d ≡ channelDone (takenBy r (f (getD (m .channels) at nothing)) (getD (m .channels) at nothing))
+    → Left (sampledAs r k (f (channelAt m k)) m) (withChannels (set (m .channels) at (d .after)) m) (d .code)
+sample-left r k f m h at d e g =
+    let b = put-back r k f m h in
+    rw (g, e) (ap (λ (s : Sampled). s .after) b, sample-code r k (f (sampleAt m k)) (sampleAt m k) (f (channelAt m k)) m)
 
-pub level-done : (m : Module) (k : ℕ) (b : Bool) (s : Sampled) (code : ℕ) → s ≡ sampledBy (step m (level k b))
-    → code ≡ replyCode (s .reply) false false → record { after = s .after; code = code } ≡ doneBy (step m (level k b))
+pub level-left : (m : Module) (k : ℕ) (b : Bool) (at : ℕ) (d : ChannelDone) → at ≡ sampleSlot k
+    → d ≡ channelDone (takenBy (levelReply k) (takeLevel b (getD (m .channels) at nothing)) (getD (m .channels) at nothing))
+    → Left (step m (level k b)) (withChannels (set (m .channels) at (d .after)) m) (d .code)
 unfolding step
-level-done m k b = sample-done (levelReply k) k (takeLevel b (channelAt m k)) m
+level-left m k b at d = sample-left (levelReply k) k (λ (ch : Channel). takeLevel b ch) m (level-digital k) at d
 
-pub current-done : (m : Module) (k : ℕ) (x : Float) (s : Sampled) (code : ℕ) → s ≡ sampledBy (step m (current k x))
-    → code ≡ replyCode (s .reply) false false → record { after = s .after; code = code } ≡ doneBy (step m (current k x))
+pub current-left : (m : Module) (k : ℕ) (x : Float) (at : ℕ) (d : ChannelDone) → at ≡ sampleSlot k
+    → d ≡ channelDone (takenBy (currentReply k x) (takeCurrent (m .shared) x (getD (m .channels) at nothing)) (getD (m .channels) at nothing))
+    → Left (step m (current k x)) (withChannels (set (m .channels) at (d .after)) m) (d .code)
 unfolding step
-current-done m k x = sample-done (currentReply k x) k (takeCurrent (m .shared) x (channelAt m k)) m
+current-left m k x at d = sample-left (currentReply k x) k (λ (ch : Channel). takeCurrent (m .shared) x ch) m (current-digital k x) at d
 
 -- power-up answers its number alone
 pub start-done : (img : List ℕ) (after : Module) (reply : Reply) (code : ℕ) → after ≡ powerUp img → reply ≡ powerUpReply img

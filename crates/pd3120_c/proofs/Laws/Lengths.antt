@@ -4,6 +4,7 @@ use mathlib.Core.Bool.{Bool, true, false, cond}
 use mathlib.Core.List.{List, [], _∷_}
 use Prim.Native.Nat.{ℕ, _≤_}
 use native.Mathlib.Omega.{arith}
+use lib.Ieee.{Float}
 use Rattle.model.specs.declared.Module.{Module}
 use Rattle.model.specs.declared.Channel.{Channel}
 use Rattle.model.specs.declared.Refusal.{Refusal}
@@ -18,8 +19,8 @@ use Rattle.model.specs.Image.{imageSize}
 use Rattle.model.specs.Calls.{Request, read, write, level, current, tick, cleared, readAs, writtenAs, sampledAs, step}
 use Rattle.reads.proofs.Laws.Held.{fits}
 use Rattle.pd3120.specs.declared.Answered.{Answered}
-use Rattle.pd3120.specs.declared.Sampled.{Sampled}
-use Rattle.pd3120.specs.Answers.{answeredBy, sampledBy}
+use Rattle.pd3120.specs.declared.samples.Taken.{Taken}
+use Rattle.pd3120.specs.Answers.{answeredBy, takenBy}
 
 answered : (b : Bool) (r : Reply) (w : Refusal) (n : ℕ) → lengthOf r ≤ n → lengthOf (cond b r (Refused w)) ≤ n
 answered true r w n h = h
@@ -66,8 +67,17 @@ step-length m tick = omega arith
 pub wire-length : (m : Module) (x : Request) (a : Answered) → a ≡ answeredBy (step m x) → lengthOf (a .reply) ≤ imageSize
 wire-length m x a e = rw e (step-length m x)
 
-pub sampled-length : (m : Module) (x : Request) (s : Sampled) → s ≡ sampledBy (step m x) → lengthOf (s .reply) ≤ imageSize
-sampled-length m x s e = rw e (step-length m x)
+taken-length : (r : Reply) (next ch : Channel) → lengthOf r ≤ imageSize → lengthOf (takenBy r next ch .reply) ≤ imageSize
+taken-length (Done n) next ch h = h
+taken-length (Refused w) next ch h = h
+
+pub level-length : (k : ℕ) (next ch : Channel) (t : Taken) → t ≡ takenBy (levelReply k) next ch → lengthOf (t .reply) ≤ imageSize
+unfolding levelReply
+level-length k next ch t e = rw e (taken-length (levelReply k) next ch (within 0 _ (asked-length (levelQuestions k) 0) (omega arith)))
+
+pub current-length : (k : ℕ) (x : Float) (next ch : Channel) (t : Taken) → t ≡ takenBy (currentReply k x) next ch → lengthOf (t .reply) ≤ imageSize
+unfolding currentReply
+current-length k x next ch t e = rw e (taken-length (currentReply k x) next ch (within 0 _ (asked-length (currentQuestions k x) 0) (omega arith)))
 
 pub power-up-length : (img : List ℕ) (r : Reply) → r ≡ powerUpReply img → lengthOf r ≤ imageSize
 unfolding powerUpReply

@@ -1,0 +1,18 @@
+-- `samples::slot` meets its contract. Assumes nothing.
+use native.Mathlib.Omega.{arith}
+use borrow.Author.Needs.{needs}
+use Rattle.pd3120.proofs.Laws.Samples.{slot-in, slot-below, slot-above}
+use Rattle.pd3120.proofs.samples.slot.Statement.{statement}
+use Rattle.pd3120.proofs.samples.slot.Tie as tie
+
+returns : tie.Need-returns
+returns c = (slot-below (c .before .args .channel) (search needs), omega arith)
+
+returns-2 : tie.Need-returns-2
+returns-2 c = (slot-above (c .before .before .args .channel) (search needs), omega arith)
+
+returns-3 : tie.Need-returns-3
+returns-3 c = (slot-in (c .before .before .args .channel) (search needs) (search needs), search needs)
+
+pub slot-spec : {M : Type 1} → statement M
+slot-spec = tie.close (tie.spec returns returns-2 returns-3)

@@ -1,0 +1,126 @@
+-- The box's module and its parts, as the walks that go into it take them. Assumes nothing.
+use mathlib.Core.Path.{_≡_, refl, sym, _∙_, subst}
+use mathlib.Core.List.{List, [], _∷_, map}
+use Prim.Native.Nat.{ℕ}
+use native.Mathlib.Omega.{arith}
+use lib.ListN.{length, length-map}
+use mir.Val.{Val}
+use denote.Shadow.{shadow}
+use denote.Array.{each}
+use denote.Struct.Laws as LL
+use Rattle.model.specs.declared.Channel.{Channel}
+use Rattle.model.specs.declared.Module.{Module}
+use Rattle.model.specs.declared.Service.{Service}
+use Rattle.model.specs.declared.Shared.{Shared}
+use Rattle.model.specs.State.{nothing}
+use Rattle.model.proofs.Channel as Ch
+use Rattle.model.proofs.Channel.Laws as Ch′
+use Rattle.model.proofs.Module as T
+use Rattle.model.proofs.Module.Laws as T′
+use Rattle.model.proofs.Service as Sv
+use Rattle.model.proofs.Service.Laws as Sv′
+use Rattle.model.proofs.Shared as Sh
+use Rattle.model.proofs.Shared.Laws as Sh′
+use Rattle.pd3120_c.specs.declared.ChannelDone.{ChannelDone}
+use Rattle.pd3120_c.proofs.ChannelDone as Cd
+use Rattle.pd3120_c.proofs.ChannelDone.Laws as Cd′
+use Rattle.pd3120_c.proofs.Walks.Plain.{Plain, Packed}
+use Rattle.pd3120_c.proofs.Walks.Rows.{Owned, Rows}
+
+abbrev pub shared : Plain
+shared = record {
+  D = Shared;
+  mir = Sh′.mir;
+  written = Sh.the-row .written;
+  reaches = Sh.the-row .reaches;
+  own = Sh.the-row .own;
+  coded = Sh.the-row .coded;
+  val = Sh′.lowered;
+  tells = Sh′.lowers .val-is;
+  typed = λ 𝓤 H A W x p. LL.lawful Sh.the-type Sh′.the-laws 𝓤 H A W .typed x _ p .0;
+  pure = λ x vs. Sh′.the-field-plain (Sh.the-type .to x) vs;
+}
+
+abbrev pub service : Plain
+service = record {
+  D = Service;
+  mir = Sv′.mir;
+  written = Sv.the-row .written;
+  reaches = Sv.the-row .reaches;
+  own = Sv.the-row .own;
+  coded = Sv.the-row .coded;
+  val = Sv′.lowered;
+  tells = Sv′.lowers .val-is;
+  typed = λ 𝓤 H A W x p. LL.lawful Sv.the-type Sv′.the-laws 𝓤 H A W .typed x _ p .0;
+  pure = λ x vs. Sv′.the-field-plain (Sv.the-type .to x) vs;
+}
+
+abbrev pub channel : Plain
+channel = record {
+  D = Channel;
+  mir = Ch′.mir;
+  written = Ch.the-row .written;
+  reaches = Ch.the-row .reaches;
+  own = Ch.the-row .own;
+  coded = Ch.the-row .coded;
+  val = Ch′.lowered;
+  tells = Ch′.lowers .val-is;
+  typed = λ 𝓤 H A W x p. LL.lawful Ch.the-type Ch′.the-laws 𝓤 H A W .typed x _ p .0;
+  pure = λ x vs. Ch′.the-field-plain (Ch.the-type .to x) vs;
+}
+
+-- what is owned at some machine values is owned at its own
+pub own-value : (P : Plain) (x : P .D) (vs : List Val) → shadow (P .own x vs) → shadow (P .own x (P .val x ∷ []))
+own-value P x vs p = subst (λ (us : List Val). shadow (P .own x us)) (P .tells x vs p) p
+
+pub each-owned : (cs : List Channel) (us : List Val) → shadow (each _ (Ch.the-field .row .own) (map (Ch.the-type .to) cs) us) → Owned channel cs
+each-owned [] us p = tt
+each-owned (c ∷ cs) [] p = absurd p
+each-owned (c ∷ cs) (u ∷ us) p = (own-value channel c (u ∷ []) (p .0), each-owned cs us (p .1))
+
+pub owned-each : (cs : List Channel) → Owned channel cs → shadow (each _ (Ch.the-field .row .own) (map (Ch.the-type .to) cs) (map Ch′.lowered cs))
+owned-each [] p = tt
+owned-each (c ∷ cs) p = (p .0, owned-each cs (p .1))
+
+abbrev pub box : Rows shared service channel
+box = record {
+  D = Module;
+  name = T.struct .name;
+  count = 16;
+  written = T.the-row .written;
+  reaches = T.the-row .reaches;
+  own = T.the-row .own;
+  coded = T.the-row .coded;
+  first = λ m. m .shared;
+  second = λ m. m .service;
+  items = λ m. m .channels;
+  none = nothing;
+  make = λ s v cs. record { shared = s; service = v; channels = cs };
+  tells = T′.lowers .val-is;
+  typed = λ 𝓤 H A W x v p. LL.lawful T.the-type T′.the-laws 𝓤 H A W .typed x _ p .0;
+  pure = λ x vs. T′.the-field-plain (T.the-type .to x) vs;
+  apart = λ m vs p.
+      let f = LL.owed T.the-type T′.the-laws m vs p in (
+        own-value shared (m .shared) _ (f .0),
+        (own-value service (m .service) _ (f .1 .0), (each-owned (m .channels) _ (f .1 .1 .0 .1 .1), sym (length-map (m .channels) (Ch.the-type .to)) ∙ f .1 .1 .0 .1 .0 .1)),
+      );
+  whole = λ s v cs p q r n. ((Sh′.lowered s ∷ [], (Sv′.lowered v ∷ [], (_ ∷ [], tt))), (refl, (p, (q, ((map Ch′.lowered cs, ((refl, length-map cs (Ch.the-type .to) ∙ n), owned-each cs r)), tt)))));
+  small = tt;
+  fits = λ k l. omega (arith, l);
+}
+
+-- a sample's channel and code
+abbrev pub sampled : Packed channel
+sampled = record {
+  D = ChannelDone;
+  name = Cd.struct .name;
+  written = Cd.the-row .written;
+  reaches = Cd.the-row .reaches;
+  own = Cd.the-row .own;
+  coded = Cd.the-row .coded;
+  after = λ d. d .after;
+  code = λ d. d .code;
+  tells = Cd′.lowers .val-is;
+  typed = λ 𝓤 H A W x v p. LL.lawful Cd.the-type Cd′.the-laws 𝓤 H A W .typed x _ p .0;
+  fields = λ x vs p. let f = LL.owed Cd.the-type Cd′.the-laws x vs p in (own-value channel (x .after) _ (f .0), f .1 .0 .1);
+}
