@@ -51,8 +51,8 @@ pub fn change(was: bool, ch: Channel) -> Channel
     let feedback = choice::flag(same, ch.flags.feedback, awaited);
     let running = ch.timers.feedback;
     let preset = ch.presets.feedback;
-    let timer = TimerCount(choice::count(same, running.0, preset.0));
     let mut timers = ch.timers;
+    let timer = TimerCount(choice::count(same, running.0, preset.0));
     timers.feedback = timer;
     let mut next = ch;
     next.timers = timers;

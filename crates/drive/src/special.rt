@@ -19,8 +19,8 @@ fn load(ch: Channel) -> Channel
 {
     let running = ch.timers.out;
     let preset = ch.presets.out;
-    let timer = TimerCount(choice::count(rose(ch), preset.0, running.0));
     let mut timers = ch.timers;
+    let timer = TimerCount(choice::count(rose(ch), preset.0, running.0));
     timers.out = timer;
     let mut next = ch;
     next.timers = timers;
@@ -77,8 +77,8 @@ fn turn_output(ch: Channel) -> Channel
     let preset = ch.presets.out;
     let turns = ch.flags.control & !running.positive();
     let out = choice::flag(turns, !ch.flags.out, ch.flags.out);
-    let timer = TimerCount(choice::count(turns, preset.0, running.0));
     let mut timers = ch.timers;
+    let timer = TimerCount(choice::count(turns, preset.0, running.0));
     timers.out = timer;
     let mut next = ch;
     next.timers = timers;

@@ -22,12 +22,12 @@ count-requires c κs = search needs
 returns : tie.Need-returns
 unfolding changed
 returns c =
-    let s = c .before .before in
-    let a = s .before .before .before .before .before .before .before .before .before .args in
+    let s = c .before in
+    let a = s .before .before .before .before .before .before .before .before .before .before .args in
     let ch = a .ch in
     let same = Bool·beq (a .was) (ch .flags .out) in
     let timer = chosen-timer same (ch .timers .feedback) (ch .presets .feedback) (s .count .ensures) (search needs) (search needs) (search needs) in
-    rw (timer, s .before .before .before .before .before .flag .ensures, s .before .before .before .before .before .before .before .has-reference .ensures)
+    rw (timer, s .before .before .before .before .before .before .flag .ensures, s .before .before .before .before .before .before .before .before .has-reference .ensures)
     (chosen (λ (t : TimerCount) (b : Bool). setFBStatus b (setFBTimer t ch)) same (ch .timers .feedback) (ch .presets .feedback) (ch .flags .feedback) (ch .flags .feedback || hasReference ch))
 
 pub change-spec : {M : Type 1} → statement M

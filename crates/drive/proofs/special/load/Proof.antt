@@ -16,9 +16,9 @@ count-requires c κs = search needs
 
 returns : tie.Need-returns
 returns c =
-    let s = c .before .before .before .before in
-    let ch = s .before .before .before .args .ch in
-    let timer = chosen-timer (s .rose .result) (ch .presets .out) (ch .timers .out) (c .before .count .ensures) (search needs) (search needs) (search needs) in
+    let s = c .before .before .before in
+    let ch = s .before .before .before .before .args .ch in
+    let timer = chosen-timer (s .rose .result) (ch .presets .out) (ch .timers .out) (c .count .ensures) (search needs) (search needs) (search needs) in
     rw (timer, s .rose .ensures) (picked (λ (t : TimerCount). setOutTimer t ch) (rose ch) (ch .presets .out) (ch .timers .out))
 
 pub load-spec : {M : Type 1} → statement M

@@ -20,12 +20,12 @@ count-requires c κs = search needs
 
 returns : tie.Need-returns
 returns c =
-    let s = c .before .before in
-    let p = s .before .before .before .before .before .before in
+    let s = c .before in
+    let p = s .before .before .before .before .before .before .before in
     let ch = p .before .before .before .args .ch in
     let turns = ch .flags .control && not (isPositive (ch .timers .out)) in
     let timer = chosen-timer (ch .flags .control && not (p .positive .result)) (ch .presets .out) (ch .timers .out) (s .count .ensures) (search needs) (search needs) (search needs) in
-    rw (timer, s .before .before .before .flag .ensures, p .positive .ensures)
+    rw (timer, s .before .before .before .before .flag .ensures, p .positive .ensures)
     (chosen (λ (t : TimerCount) (b : Bool). setOutTimer t (setOutFlag b ch)) turns (ch .presets .out) (ch .timers .out) (not (ch .flags .out)) (ch .flags .out))
 
 pub turn-output-spec : {M : Type 1} → statement M
