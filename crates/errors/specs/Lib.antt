@@ -1,2 +1,3 @@
--- The flags that registers show of every channel at once.
+-- What registers show of every channel at once: its flags, and whether it has errors.
 pub mod Flags
+pub mod Words

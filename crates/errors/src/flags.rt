@@ -1,7 +1,7 @@
-// One flag of each of the sixteen channels, as bits, as a word and all together.
+// One flag of each of the sixteen channels, as bits and as a word.
 ghost use mathlib.Core.Path.{_≡_};
 ghost use mathlib.Core.List.{map};
-ghost use Rattle.model.specs.Errors.{wordOf, any, anyBit};
+ghost use Rattle.model.specs.Errors.{wordOf, anyBit};
 ghost use Rattle.model.specs.Reads.{channelWord};
 ghost use Rattle.errors.specs.Flags.{flagOf};
 use crate::bits;
@@ -9,12 +9,10 @@ use integers::bytes;
 use model::Channel;
 use model::ErrorBits;
 
-// OutFlag, InFlag, His not 0, Act not 0.
+// OutFlag, InFlag.
 pub enum Flag {
     Out,
     Input,
-    His,
-    Act,
 }
 
 pub fn any_bit(e: ErrorBits) -> bool
@@ -30,8 +28,6 @@ pub fn flag_of(which: Flag, ch: Channel) -> bool
     match which {
         Flag::Out => ch.flags.out,
         Flag::Input => ch.flags.input,
-        Flag::His => any_bit(ch.errors.his),
-        Flag::Act => any_bit(ch.errors.act),
     }
 }
 
@@ -58,10 +54,4 @@ pub fn word_bytes(which: Flag, channels: [Channel; 16]) -> [u8; 2]
     ensures { λ r. ⌜ r ≡ channelWord (flagOf which) channels ⌝ }
 {
     bytes::bytes_of_u16(word(which, channels))
-}
-
-pub fn any_of(which: Flag, channels: [Channel; 16]) -> bool
-    ensures { λ r. ⌜ r ≡ any (flagOf which) channels ⌝ }
-{
-    word(which, channels) != 0
 }

@@ -7,12 +7,13 @@ use native.Mathlib.Nat.{pow-suc, lt-of-lt-of-le}
 use native.Mathlib.Numerals.{add-one}
 use native.Mathlib.Omega.{arith}
 use lib.Dec.{eqb}
-use lib.ListN.{length, getD, take, drop, length-append, length-take, length-drop, length-map}
+use lib.ListN.{length, getD, take, drop, length-append, length-take, length-drop, length-map, List·getD-map}
 use lib.Pow.{pow-mono}
 use lib.Seq.{take-suc, drop-cons}
 use borrow.Author.Tests.{ne-eqb}
 use Rattle.integers.specs.Bytes.{bytesOf}
 use Rattle.model.specs.declared.Channel.{Channel}
+use Rattle.model.specs.State.{nothing}
 use Rattle.model.specs.Errors.{bitValue, byteOf, wordOf, any}
 
 -- the value of a bit
@@ -66,7 +67,14 @@ word-room k w bits h =
     let l : length (drop k bits) ≤ w = simp length-drop (omega arith) in
     lt-of-lt-of-le (word-below (drop k bits)) (pow-mono l)
 
--- ---- a flag of the channels: any has it where the word of all is not 0
+-- ---- a flag of the channels, as a word: a channel more, the room of fifteen, and that any has it where the word of all is not 0
+module _ (p : Channel → Bool) (k : ℕ) (cs : List Channel) where
+  pub flag-step : p nothing ≡ false → k < length cs → wordOf (drop (suc k) (map p cs)) * 2 + bitValue (p (getD cs k nothing)) ≡ wordOf (drop k (map p cs))
+  flag-step z h = rw (← List·getD-map p cs k nothing, z) (word-step k (map p cs) (rw length-map h))
+
+  pub flag-room : (n : ℕ) → length cs ≡ 16 → 0 < k → n ≡ wordOf (drop k (map p cs)) → n < 32768
+  flag-room n l h e = rw e (word-room k 15 (map p cs) (rw (length-map, l) (omega arith)))
+
 or-not-zero : (b : Bool) (a : Bool) (w : ℕ) → a ≡ not (eqb w 0) → b || a ≡ not (eqb (bitValue b + 2 * w) 0)
 or-not-zero true a w e = rw (ne-eqb (1 + 2 * w) 0 (λ z. omega (arith, z)))
 or-not-zero false a zero e = e

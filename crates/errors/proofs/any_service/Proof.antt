@@ -1,15 +1,13 @@
 -- `any_service` meets its contract. Assumes nothing.
 use borrow.Author.Needs.{needs}
 use Rattle.model.specs.Errors.{anyService}
+use Rattle.errors.proofs.Laws.Bits.{any-word}
 use Rattle.errors.proofs.any_service.Statement.{statement}
 use Rattle.errors.proofs.any_service.Tie as tie
 
-any-of-requires : tie.Need-any-of-requires
-any-of-requires c κs = search needs
-
 returns : tie.Need-returns
 unfolding anyService
-returns c = simp (c .before .before .before .any-of .ensures)
+returns c p cs n e = simp (e, any-word p cs)
 
 pub any-service-spec : {M : Type 1} → statement M
-any-service-spec = tie.close (tie.spec any-of-requires returns)
+any-service-spec = tie.close (tie.spec returns)

@@ -1,7 +1,10 @@
 -- `common_error` meets its contract. Assumes nothing.
+use mathlib.Core.Path.{_≡_, ap}
+use mathlib.Core.List.{map}
 use borrow.Author.Needs.{needs}
 use Rattle.integers.specs.Bytes.{bytesOf}
-use Rattle.model.specs.Errors.{comBytes, commonErrorBytes}
+use Rattle.model.specs.Errors.{wordOf, hasHis, hasAct, comBytes, commonErrorBytes}
+use Rattle.errors.specs.declared.words.ErrorWords.{ErrorWords}
 use Rattle.errors.proofs.common_error.Statement.{statement}
 use Rattle.errors.proofs.common_error.Tie as tie
 
@@ -17,27 +20,32 @@ com-bytes-requires c κs = search needs
 com-bytes-requires-2 : tie.Need-com-bytes-requires-2
 com-bytes-requires-2 c κs = search needs
 
-array-read-t11 : tie.Need-array-read-t11
-array-read-t11 c = search needs
+array-read-t10 : tie.Need-array-read-t10
+array-read-t10 c = search needs
 
-array-read-t14 : tie.Need-array-read-t14
-array-read-t14 c = search needs
+array-read-t13 : tie.Need-array-read-t13
+array-read-t13 c = search needs
 
-array-read-t17 : tie.Need-array-read-t17
-array-read-t17 c = search needs
+array-read-t16 : tie.Need-array-read-t16
+array-read-t16 c = search needs
 
-array-read-t20 : tie.Need-array-read-t20
-array-read-t20 c = search needs
+array-read-t19 : tie.Need-array-read-t19
+array-read-t19 c = search needs
 
-array-read-t23 : tie.Need-array-read-t23
-array-read-t23 c = search needs
+array-read-t22 : tie.Need-array-read-t22
+array-read-t22 c = search needs
 
-array-read-t26 : tie.Need-array-read-t26
-array-read-t26 c = search needs
+array-read-t25 : tie.Need-array-read-t25
+array-read-t25 c = search needs
 
 returns : tie.Need-returns
 unfolding commonErrorBytes comBytes bytesOf
-returns c = simp (c .com-bytes2 .ensures, c .before .com-bytes .ensures, c .before .before .service-byte2 .ensures, c .before .before .before .service-byte .ensures)
+returns c m v n e =
+    let cs = m .channels in
+    let w = c .before .before .before .before .args .w in
+    let his : w .his ≡ wordOf (map hasHis cs) = ap (λ (x : ErrorWords). x .his) e in
+    let act : w .act ≡ wordOf (map hasAct cs) = ap (λ (x : ErrorWords). x .act) e in
+    simp (v, c .com-bytes2 .ensures hasAct cs n act, c .before .com-bytes .ensures hasHis cs n his, c .before .before .service-byte2 .ensures hasAct cs n act, c .before .before .before .service-byte .ensures hasHis cs n his)
 
 pub common-error-spec : {M : Type 1} → statement M
 common-error-spec =
@@ -47,10 +55,10 @@ common-error-spec =
     service-byte-requires-2
     com-bytes-requires
     com-bytes-requires-2
-    array-read-t11
-    array-read-t14
-    array-read-t17
-    array-read-t20
-    array-read-t23
-    array-read-t26
+    array-read-t10
+    array-read-t13
+    array-read-t16
+    array-read-t19
+    array-read-t22
+    array-read-t25
     returns)

@@ -5,36 +5,36 @@ use Rattle.model.specs.Reads.{commonBytes}
 use Rattle.errors.proofs.io_ch_error.Statement.{statement}
 use Rattle.errors.proofs.io_ch_error.Tie as tie
 
-word-bytes-requires : tie.Need-word-bytes-requires
-word-bytes-requires c κs = search needs
+bytes-of-u16-requires : tie.Need-bytes-of-u16-requires
+bytes-of-u16-requires c κs = search needs
 
-word-bytes-requires-2 : tie.Need-word-bytes-requires-2
-word-bytes-requires-2 c κs = search needs
+bytes-of-u16-requires-2 : tie.Need-bytes-of-u16-requires-2
+bytes-of-u16-requires-2 c κs = search needs
 
-array-read-t8 : tie.Need-array-read-t8
-array-read-t8 c = search needs
+array-read-t7 : tie.Need-array-read-t7
+array-read-t7 c = search needs
 
-array-read-t11 : tie.Need-array-read-t11
-array-read-t11 c = search needs
+array-read-t10 : tie.Need-array-read-t10
+array-read-t10 c = search needs
 
-array-read-t14 : tie.Need-array-read-t14
-array-read-t14 c = search needs
+array-read-t13 : tie.Need-array-read-t13
+array-read-t13 c = search needs
 
-array-read-t17 : tie.Need-array-read-t17
-array-read-t17 c = search needs
+array-read-t16 : tie.Need-array-read-t16
+array-read-t16 c = search needs
 
 returns : tie.Need-returns
 unfolding commonBytes bytesOf
-returns c = simp (c .word-bytes2 .ensures, c .before .word-bytes .ensures)
+returns c cs n e = simp (c .bytes-of-u162 .ensures, c .before .bytes-of-u16 .ensures, e)
 
 pub io-ch-error-spec : {M : Type 1} → statement M
 io-ch-error-spec =
     tie.close
     (tie.spec
-    word-bytes-requires
-    word-bytes-requires-2
-    array-read-t8
-    array-read-t11
-    array-read-t14
-    array-read-t17
+    bytes-of-u16-requires
+    bytes-of-u16-requires-2
+    array-read-t7
+    array-read-t10
+    array-read-t13
+    array-read-t16
     returns)
