@@ -1,3 +1,3 @@
--- Laws that belong to no one function, and what reading leaves of the whole box.
+-- Laws that belong to no one function, and what a read leaves of the box.
 pub mod Laws
-pub mod Left
+pub mod Back

@@ -1,26 +1,31 @@
 // What a wire read gives: the bytes of each register, what reading leaves, and the way of the bytes
-// to the lent buffer.
+// to the lent buffer. A read changes at most the service record and one channel, and answers with
+// these two, so that whoever holds the box puts them back and nothing else is copied.
 ghost use mathlib.Core.Path.{_≡_};
-ghost use Prim.Native.Nat.{_≤_};
-ghost use Rattle.model.specs.State.{channelAt, putChannel};
+ghost use mathlib.Core.List.{map};
+ghost use Prim.Native.Nat.{_<_};
+ghost use lib.ListN.{getD};
+ghost use Rattle.model.specs.State.{inFlag, nothing};
 ghost use Rattle.model.specs.Registers.{digitalRow, size};
-ghost use Rattle.model.specs.Tick.{levels};
-ghost use Rattle.model.specs.Reads.{flagReg, serviceBytes, digitalBytes, commonBytes, bytesRead, serviceRead, digitalRead, afterRead};
+ghost use Rattle.model.specs.Reads.{flagReg, serviceBytes, digitalBytes, commonBytes, bytesRead, digitalRead};
+ghost use Rattle.errors.specs.Words.{wordsOf, OfWords};
 ghost use Rattle.registers.specs.Places.{placed, Within};
 ghost use Rattle.reads.specs.Held.{held};
-ghost use Rattle.reads.specs.Left.{serviceReadOf};
-ghost use Rattle.reads.specs.Reading.{readingOf, bufferOf};
+ghost use Rattle.reads.specs.Left.{slotOf, serviceReadOf, serviceLeft, channelLeft};
+ghost use Rattle.reads.specs.Reading.{boxOf, readingOf, bufferOf};
 use buffer::RegisterBytes;
 use errors::bits;
 use errors::flags;
 use errors::flags::Flag;
+use errors::words;
+use errors::words::ErrorWords;
 use model::Channel;
 use model::CommonRegister;
 use model::DigitalRegister;
-use model::Module;
 use model::Reply;
 use model::Service;
 use model::ServiceRegister;
+use model::Shared;
 use registers::Place;
 
 pub mod buffer; // the bytes of a register, to the lent buffer
@@ -37,36 +42,43 @@ fn flag_reg(levels: [bool; 16], ch: Channel) -> u8
     bits::byte_of([f.out, f.input, a, b, f.control, f.feedback, act, false])
 }
 
-// What a read answers, and the box that it leaves.
+// What a read answers; the service record and the channel, counted from 0, that it leaves; and the
+// words of the channels' errors.
 pub struct Reading {
     pub reply: Reply,
-    pub after: Module,
+    pub service: Service,
+    pub at: usize,
+    pub channel: Channel,
+    pub words: ErrorWords,
 }
 
-pub fn service_bytes(r: ServiceRegister, m: Module) -> RegisterBytes
-    ensures { λ b. ⌜ b ≡ held (serviceBytes r m) ⌝ }
+fn service_bytes(r: ServiceRegister, s: Shared, v: Service, w: ErrorWords) -> RegisterBytes
+    ensures { λ b. ⌜ OfWords (λ cs. held (serviceBytes r (boxOf s v cs))) w b ⌝ }
 {
     match r {
         ServiceRegister::Highest => values::two([0x01, 0x1F]),
         ServiceRegister::Reset => values::one(0),
-        ServiceRegister::FreeRunTimer => values::signed(m.shared.timer.0),
-        ServiceRegister::WDTimer => values::timer(m.service.watchdog),
-        ServiceRegister::ModuleConfig => values::config(m.shared.config),
-        ServiceRegister::WDPreset => values::timer(m.shared.preset),
-        ServiceRegister::WriteEnable => values::truth(m.shared.enabled),
-        ServiceRegister::CommonError => values::twelve(errors::common_error(m)),
+        ServiceRegister::FreeRunTimer => values::signed(s.timer.0),
+        ServiceRegister::WDTimer => values::timer(v.watchdog),
+        ServiceRegister::ModuleConfig => values::config(s.config),
+        ServiceRegister::WDPreset => values::timer(s.preset),
+        ServiceRegister::WriteEnable => values::truth(s.enabled),
+        ServiceRegister::CommonError => values::twelve(errors::common_error(v, w)),
     }
 }
 
-// levels are the InFlags of channels 1 to 16.
-pub fn digital_bytes(r: DigitalRegister, levels: [bool; 16], ch: Channel) -> RegisterBytes
-    ensures { λ b. ⌜ b ≡ held (digitalBytes r levels ch) ⌝ }
+// Only FlagReg looks at other channels: at the InFlags of its references.
+fn digital_bytes(r: DigitalRegister, channels: [Channel; 16], ch: Channel) -> RegisterBytes
+    ensures { λ b. ⌜ b ≡ held (digitalBytes r (map inFlag channels) ch) ⌝ }
 {
     let user = ch.user;
     let reals = ch.reals;
     let maintenance = ch.maintenance;
     match r {
-        DigitalRegister::FlagReg => values::one(flag_reg(levels, ch)),
+        DigitalRegister::FlagReg => values::one(flag_reg(
+            flags::flags_of(Flag::Input, channels),
+            ch,
+        )),
         DigitalRegister::OutTimer => values::timer(ch.timers.out),
         DigitalRegister::Counter => values::signed(ch.counter),
         DigitalRegister::OutCurrent => values::real(ch.currents.out),
@@ -84,14 +96,15 @@ pub fn digital_bytes(r: DigitalRegister, levels: [bool; 16], ch: Channel) -> Reg
     }
 }
 
-pub fn common_bytes(r: CommonRegister, channels: [Channel; 16]) -> RegisterBytes
+fn common_bytes(r: CommonRegister, w: ErrorWords, channels: [Channel; 16]) -> RegisterBytes
+    requires { ⌜ w ≡ wordsOf channels ⌝ }
     ensures { λ b. ⌜ b ≡ held (commonBytes r channels) ⌝ }
 {
     match r {
         CommonRegister::OutFlags => values::channel_word(Flag::Out, channels),
         CommonRegister::InFlags => values::channel_word(Flag::Input, channels),
-        CommonRegister::IOChError => values::four(errors::io_ch_error(channels)),
-        CommonRegister::ChError => values::four(errors::common_ch_error(channels)),
+        CommonRegister::IOChError => values::four(errors::io_ch_error(w)),
+        CommonRegister::ChError => values::four(errors::common_ch_error(w)),
     }
 }
 
@@ -134,94 +147,100 @@ pub fn digital_read(r: DigitalRegister, ch: Channel) -> Channel
 }
 
 // The bytes of a channel's register, and that they are as many as the table says.
-fn sized_bytes(r: DigitalRegister, levels: [bool; 16], ch: Channel) -> RegisterBytes
-    ensures bytes { λ b. ⌜ b ≡ held (digitalBytes r levels ch) ⌝ }
+fn sized_bytes(r: DigitalRegister, channels: [Channel; 16], ch: Channel) -> RegisterBytes
+    ensures bytes { λ b. ⌜ b ≡ held (digitalBytes r (map inFlag channels) ch) ⌝ }
     ensures size { λ b. ⌜ b .len ≡ digitalRow r .size ⌝ }
 {
-    digital_bytes(r, levels, ch)
+    digital_bytes(r, channels, ch)
 }
 
-fn channel_bytes(k: u8, r: DigitalRegister, m: Module) -> RegisterBytes
-    requires { ⌜ (1 ≤ k) × (k ≤ 16) ⌝ }
-    ensures bytes { λ b. ⌜ b ≡ held (digitalBytes r (levels m) (channelAt m k)) ⌝ }
-    ensures size { λ b. ⌜ b .len ≡ digitalRow r .size ⌝ }
-{
-    let channels = m.channels;
-    let at = (k as usize) - 1;
-    let ch = channels[at];
-    sized_bytes(r, flags::flags_of(Flag::Input, channels), ch)
-}
-
-fn place_bytes(p: Place, m: Module) -> RegisterBytes
-    requires { ⌜ Within (placed p) ⌝ }
-    ensures bytes { λ b. ⌜ b ≡ held (bytesRead (placed p) m) ⌝ }
+// ch is the place's own channel.
+fn place_bytes(
+    p: Place,
+    s: Shared,
+    v: Service,
+    w: ErrorWords,
+    channels: [Channel; 16],
+    ch: Channel,
+) -> RegisterBytes
+    requires { ⌜ (w ≡ wordsOf channels) × (ch ≡ getD channels (slotOf (placed p)) nothing) ⌝ }
+    ensures bytes { λ b. ⌜ b ≡ held (bytesRead (placed p) (boxOf s v channels)) ⌝ }
     ensures size { λ b. ⌜ b .len ≡ size (placed p) ⌝ }
 {
     match p {
-        Place::Service(r) => service_bytes(r, m),
-        Place::Digital(k, r) => channel_bytes(k, r, m),
-        Place::Common(r) => {
-            let channels = m.channels;
-            common_bytes(r, channels)
-        }
+        Place::Service(r) => service_bytes(r, s, v, w),
+        Place::Digital(_, r) => sized_bytes(r, channels, ch),
+        Place::Common(r) => common_bytes(r, w, channels),
         Place::Unlisted => values::none(),
         Place::Beyond => values::none(),
     }
 }
 
-fn channel_after(k: u8, r: DigitalRegister, m: Module) -> Module
-    requires { ⌜ (1 ≤ k) × (k ≤ 16) ⌝ }
-    ensures { λ next. ⌜ next ≡ putChannel k (digitalRead r (channelAt m k)) m ⌝ }
-{
-    let at = (k as usize) - 1;
-    let ch = m.channels[at];
-    let mut next = m;
-    next.channels[at] = digital_read(r, ch);
-    next
-}
-
-fn service_after(r: ServiceRegister, m: Module) -> Module
-    ensures { λ next. ⌜ next ≡ serviceRead r m ⌝ }
-{
-    let service = service_read(r, m.service);
-    let mut next = m;
-    next.service = service;
-    next
-}
-
-// What reading leaves of the box.
-fn place_after(p: Place, m: Module) -> Module
+fn slot(p: Place) -> usize
     requires { ⌜ Within (placed p) ⌝ }
-    ensures { λ next. ⌜ next ≡ afterRead (placed p) m ⌝ }
+    ensures { λ i. ⌜ (i ≡ slotOf (placed p)) × (i < 16) ⌝ }
 {
     match p {
-        Place::Service(r) => service_after(r, m),
-        Place::Digital(k, r) => channel_after(k, r, m),
-        Place::Common(_) => m,
-        Place::Unlisted => m,
-        Place::Beyond => m,
+        Place::Service(_) => 0,
+        Place::Digital(k, _) => (k as usize) - 1,
+        Place::Common(_) => 0,
+        Place::Unlisted => 0,
+        Place::Beyond => 0,
+    }
+}
+
+fn service_left(p: Place, v: Service) -> Service
+    ensures { λ r. ⌜ r ≡ serviceLeft (placed p) v ⌝ }
+{
+    match p {
+        Place::Service(r) => service_read(r, v),
+        Place::Digital(_, _) => v,
+        Place::Common(_) => v,
+        Place::Unlisted => v,
+        Place::Beyond => v,
+    }
+}
+
+fn channel_left(p: Place, ch: Channel) -> Channel
+    ensures { λ r. ⌜ r ≡ channelLeft (placed p) ch ⌝ }
+{
+    match p {
+        Place::Service(_) => ch,
+        Place::Digital(_, r) => digital_read(r, ch),
+        Place::Common(_) => ch,
+        Place::Unlisted => ch,
+        Place::Beyond => ch,
     }
 }
 
 // A read of a SWNo into a lent buffer. The clearing and the preset of a wire call stand around it.
-pub fn read(m: Module, swno: u16, buf: &mut [u8]) -> Reading
-    ensures answer { λ r. ⌜ r ≡ readingOf m swno (now (buf .entry)) ⌝ }
-    ensures buffer { λ r. ⌜ now (buf .exit) ≡ bufferOf m swno (now (buf .entry)) ⌝ }
+pub fn read(s: Shared, v: Service, channels: [Channel; 16], swno: u16, buf: &mut [u8]) -> Reading
+    ensures answer { λ r. ⌜ r ≡ readingOf (boxOf s v channels) swno (now (buf .entry)) ⌝ }
+    ensures buffer { λ r. ⌜ now (buf .exit) ≡ bufferOf (boxOf s v channels) swno (now (buf .entry)) ⌝ }
 {
     let p = registers::place_of(swno);
     let reply = questions::read_reply(p, buf);
+    let w = words::words(channels);
+    let at = slot(p);
+    let ch = channels[at];
     match reply {
         Reply::Done(_) => {
-            let bytes = place_bytes(p, m);
+            let bytes = place_bytes(p, s, v, w, channels, ch);
             buffer::copy_out(bytes, buf);
             Reading {
                 reply: reply,
-                after: place_after(p, m),
+                service: service_left(p, v),
+                at: at,
+                channel: channel_left(p, ch),
+                words: w,
             }
         }
         Reply::Refused(_) => Reading {
             reply: reply,
-            after: m,
+            service: v,
+            at: at,
+            channel: ch,
+            words: w,
         },
     }
 }

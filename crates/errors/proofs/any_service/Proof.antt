@@ -1,5 +1,4 @@
 -- `any_service` meets its contract. Assumes nothing.
-use borrow.Author.Needs.{needs}
 use Rattle.model.specs.Errors.{anyService}
 use Rattle.errors.proofs.Laws.Bits.{any-word}
 use Rattle.errors.proofs.any_service.Statement.{statement}

@@ -1,17 +1,26 @@
--- The answer, the box and the buffer of a read. Assumes nothing.
+-- The answer and the buffer of a read. Assumes nothing.
 use mathlib.Core.Path.{_≡_}
 use mathlib.Core.List.{List}
 use Prim.Native.Nat.{ℕ}
+use lib.ListN.{getD}
+use Rattle.model.specs.declared.Channel.{Channel}
+use Rattle.model.specs.declared.Service.{Service}
 use Rattle.model.specs.declared.Module.{Module}
 use Rattle.model.specs.declared.Reply.{Reply}
+use Rattle.model.specs.State.{nothing}
 use Rattle.model.specs.Registers.{Place, place}
 use Rattle.model.specs.Questions.{readReply}
+use Rattle.errors.specs.declared.words.ErrorWords.{ErrorWords}
+use Rattle.errors.specs.Words.{wordsOf}
+use Rattle.reads.specs.Left.{slotOf}
 use Rattle.reads.specs.Reading.{leaves, fills, readingOf, bufferOf}
 
 module _ (m : Module) (n : ℕ) (lent : List ℕ) (p : Place) (r : Reply) (e : p ≡ place n) (f : r ≡ readReply p lent) where
-  pub answered : (after : Module) → after ≡ leaves r p m → record { reply = r; after = after } ≡ readingOf m n lent
+  pub answered : (v : Service) (i : ℕ) (ch : Channel) (w : ErrorWords)
+      → v ≡ leaves r p m .service → i ≡ slotOf p → ch ≡ getD (leaves r p m .channels) (slotOf p) nothing → w ≡ wordsOf (m .channels)
+      → record { reply = r; service = v; at = i; channel = ch; words = w } ≡ readingOf m n lent
   unfolding readingOf
-  answered after g = rw (g, f, e)
+  answered v i ch w g h j k = rw (g, h, j, k, f, e)
 
   pub buffered : (buffer : List ℕ) → buffer ≡ fills r p m lent → buffer ≡ bufferOf m n lent
   unfolding bufferOf

@@ -1,4 +1,6 @@
 -- `common_bytes` meets its contract. Assumes nothing.
+use mathlib.Core.Path.{_≡_}
+use lib.ListN.{length}
 use borrow.Author.Needs.{needs}
 use Rattle.model.specs.Reads.{commonBytes}
 use Rattle.reads.proofs.common_bytes.Statement.{statement}
@@ -44,11 +46,17 @@ returns-2 c = simp (c .channel-word2 .ensures, c .before .enum-told2 .given .1)
 
 returns-3 : tie.Need-returns-3
 unfolding commonBytes
-returns-3 c = simp (c .four .ensures, c .before .io-ch-error .ensures, c .before .before .enum-told3 .given .1)
+returns-3 c =
+    let s = c .before .before .before .before in
+    let l : length (s .args .channels) ≡ 16 = search needs in
+    simp (c .four .ensures, c .before .io-ch-error .ensures (s .args .channels) l (s .pre), c .before .before .enum-told3 .given .1)
 
 returns-4 : tie.Need-returns-4
 unfolding commonBytes
-returns-4 c = simp (c .four2 .ensures, c .before .common-ch-error .ensures, c .before .before .enum-told4 .given .1)
+returns-4 c =
+    let s = c .before .before .before .before in
+    let l : length (s .args .channels) ≡ 16 = search needs in
+    simp (c .four2 .ensures, c .before .common-ch-error .ensures (s .args .channels) l (s .pre), c .before .before .enum-told4 .given .1)
 
 pub common-bytes-spec : {M : Type 1} → statement M
 common-bytes-spec =

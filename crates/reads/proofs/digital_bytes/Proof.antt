@@ -1,13 +1,16 @@
 -- `digital_bytes` meets its contract. Assumes nothing.
-use borrow.Author.Needs.{needs}
 use mir.Facts.{toZ-ofZ}
 use mir.Syntax.{w32}
+use borrow.Author.Needs.{needs}
 use Rattle.model.specs.Reads.{digitalBytes}
 use Rattle.reads.proofs.digital_bytes.Statement.{statement}
 use Rattle.reads.proofs.digital_bytes.Tie as tie
 
 enum-told : tie.Need-enum-told
 enum-told c = search needs
+
+flags-of-requires : tie.Need-flags-of-requires
+flags-of-requires c κs = search needs
 
 flag-reg-requires : tie.Need-flag-reg-requires
 flag-reg-requires c κs = search needs
@@ -104,7 +107,7 @@ four-requires-3 c κs = search needs
 
 returns : tie.Need-returns
 unfolding digitalBytes
-returns c = simp (c .one .ensures, c .before .flag-reg .ensures, c .before .before .enum-told .given .1)
+returns c = simp (c .one .ensures, c .before .flag-reg .ensures, c .before .before .flags-of .ensures, c .before .before .before .enum-told .given .1)
 
 returns-2 : tie.Need-returns-2
 unfolding digitalBytes
@@ -169,6 +172,7 @@ digital-bytes-spec =
     tie.close
     (tie.spec
     enum-told
+    flags-of-requires
     flag-reg-requires
     one-requires
     enum-told-2

@@ -1,8 +1,10 @@
 -- `place_bytes` meets its contract. Assumes nothing.
+use mathlib.Core.Path.{_≡_, refl}
+use lib.ListN.{length}
 use borrow.Author.Needs.{needs}
-use mathlib.Core.Path.{refl}
 use Rattle.model.specs.Reads.{bytesRead}
 use Rattle.model.proofs.Facts.{sized}
+use Rattle.reads.specs.Reading.{boxOf}
 use Rattle.reads.proofs.Laws.Held.{held-size}
 use Rattle.reads.proofs.place_bytes.Statement.{statement}
 use Rattle.reads.proofs.place_bytes.Tie as tie
@@ -16,8 +18,8 @@ service-bytes-requires c κs = search needs
 enum-known-p-2 : tie.Need-enum-known-p-2
 enum-known-p-2 c = search needs
 
-channel-bytes-requires : tie.Need-channel-bytes-requires
-channel-bytes-requires c κs = rw (c .before .p2 .given .1) at (c .before .before .before .pre)
+sized-bytes-requires : tie.Need-sized-bytes-requires
+sized-bytes-requires c κs = search needs
 
 enum-known-p-3 : tie.Need-enum-known-p-3
 enum-known-p-3 c = search needs
@@ -39,15 +41,27 @@ none-requires-2 c κs = search needs
 
 returns : tie.Need-returns
 unfolding bytesRead
-returns c = let e = c .service-bytes .ensures in rw (c .before .before .p .given .1) (e, held-size _ _ _ e (sized .services _ _))
+returns c =
+    let s = c .before .before .before .before in
+    let l : length (s .args .channels) ≡ 16 = search (needs, s .good .1 .1 .1 .1 .0) in
+    let e = c .service-bytes .ensures (s .args .channels) l (s .pre .0) in
+    rw (c .before .before .p .given .1) (e, held-size _ _ _ e (sized .services _ _))
 
 returns-2 : tie.Need-returns-2
 unfolding bytesRead
-returns-2 c = let e = c .channel-bytes .ensures in rw (c .before .before .p2 .given .1) (e .0, e .1)
+returns-2 c =
+    let p = c .before .before .p2 .given .1 in
+    let own = rw p at (c .before .before .before .before .pre .1) in
+    let e = c .sized-bytes .ensures in
+    rw p (rw (← own) (e .0), e .1)
 
 returns-3 : tie.Need-returns-3
 unfolding bytesRead
-returns-3 c = let e = c .common-bytes .ensures in rw (c .before .before .before .p3 .given .1) (e, held-size _ _ _ e (sized .commons (c .before .before .before .p3 .given .0 .0) (c .before .before .before .before .before .args .m)))
+returns-3 c =
+    let a = c .before .before .before .before .args in
+    let p = c .before .before .p3 .given in
+    let e = c .common-bytes .ensures in
+    rw (p .1) (e, held-size _ _ _ e (sized .commons (p .0 .0) (boxOf (a .s) (a .v) (a .channels))))
 
 returns-4 : tie.Need-returns-4
 unfolding bytesRead
@@ -64,7 +78,7 @@ place-bytes-spec =
     enum-known-p
     service-bytes-requires
     enum-known-p-2
-    channel-bytes-requires
+    sized-bytes-requires
     enum-known-p-3
     common-bytes-requires
     enum-told

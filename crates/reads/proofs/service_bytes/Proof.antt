@@ -1,9 +1,11 @@
 -- `service_bytes` meets its contract. Assumes nothing.
-use borrow.Author.Needs.{needs}
+use mathlib.Core.Path.{refl}
 use mir.Facts.{toZ-ofZ}
 use mir.Syntax.{w32}
+use borrow.Author.Needs.{needs}
 use Rattle.integers.specs.Bytes.{bytesOf}
 use Rattle.model.specs.Reads.{serviceBytes}
+use Rattle.reads.specs.Reading.{boxOf}
 use Rattle.reads.proofs.service_bytes.Statement.{statement}
 use Rattle.reads.proofs.service_bytes.Tie as tie
 
@@ -60,37 +62,40 @@ twelve-requires c κs = search needs
 
 returns : tie.Need-returns
 unfolding serviceBytes bytesOf
-returns c = simp (c .two .ensures, c .before .enum-told .given .1)
+returns c cs n e = simp (c .two .ensures, c .before .enum-told .given .1)
 
 returns-2 : tie.Need-returns-2
 unfolding serviceBytes
-returns-2 c = simp (c .one .ensures, c .before .enum-told2 .given .1)
+returns-2 c cs n e = simp (c .one .ensures, c .before .enum-told2 .given .1)
 
 returns-3 : tie.Need-returns-3
 unfolding serviceBytes
-returns-3 c =
-    let z = c .before .before .before .before .args .m .shared .timer .0 in
+returns-3 c cs n e =
+    let z = c .before .before .before .before .args .s .timer .0 in
     simp (c .signed .ensures, c .before .before .enum-told3 .given .1, toZ-ofZ {w = w32} {z = z} (search needs))
 
 returns-4 : tie.Need-returns-4
 unfolding serviceBytes
-returns-4 c = simp (c .timer .ensures, c .before .enum-told4 .given .1)
+returns-4 c cs n e = simp (c .timer .ensures, c .before .enum-told4 .given .1)
 
 returns-5 : tie.Need-returns-5
 unfolding serviceBytes
-returns-5 c = simp (c .config .ensures, c .before .enum-told5 .given .1)
+returns-5 c cs n e = simp (c .config .ensures, c .before .enum-told5 .given .1)
 
 returns-6 : tie.Need-returns-6
 unfolding serviceBytes
-returns-6 c = simp (c .timer2 .ensures, c .before .enum-told6 .given .1)
+returns-6 c cs n e = simp (c .timer2 .ensures, c .before .enum-told6 .given .1)
 
 returns-7 : tie.Need-returns-7
 unfolding serviceBytes
-returns-7 c = simp (c .truth .ensures, c .before .enum-told7 .given .1)
+returns-7 c cs n e = simp (c .truth .ensures, c .before .enum-told7 .given .1)
 
 returns-8 : tie.Need-returns-8
 unfolding serviceBytes
-returns-8 c = simp (c .twelve .ensures, c .before .common-error .ensures, c .before .before .enum-told8 .given .1)
+returns-8 c cs n e =
+    let a = c .before .before .before .before .args in
+    let m = boxOf (a .s) (a .v) cs in
+    simp (c .twelve .ensures, c .before .common-error .ensures m refl n e, c .before .before .enum-told8 .given .1)
 
 pub service-bytes-spec : {M : Type 1} → statement M
 service-bytes-spec =
