@@ -1,21 +1,26 @@
 -- The public answers beside the model's. The paper's number and length of a reply are `numberOf` and `lengthOf` of the model's Questions. Definitions only.
 use mathlib.Core.Path.{_≡_}
-use mathlib.Core.Bool.{Bool, cond, _&&_}
+use mathlib.Core.Bool.{Bool, false, cond, _&&_}
 use mathlib.Core.List.{List}
 use Prim.Native.Nat.{ℕ, _-_}
+use lib.ListN.{getD}
 use Rattle.model.specs.declared.Call.{Call}
 use Rattle.model.specs.declared.Call.the-variants.{Read, Write, Level, Current, Tick}
 use Rattle.model.specs.declared.Channel.{Channel}
 use Rattle.model.specs.declared.Module.{Module}
+use Rattle.model.specs.declared.Service.{Service}
+use Rattle.model.specs.declared.Shared.{Shared}
 use Rattle.model.specs.declared.Reply.{Reply}
 use Rattle.model.specs.declared.Reply.the-variants.{Done, Refused}
-use Rattle.model.specs.State.{channelAt}
+use Rattle.model.specs.State.{channelAt, nothing}
 use Rattle.model.specs.Settings.{digital, output}
 use Rattle.model.specs.Questions.{powerUpReply}
 use Rattle.model.specs.Calls.{Request, read, write, level, current, tick, Stepped, step, powerUp}
 use Rattle.model.specs.Image.{setupOf, encode}
+use Rattle.model.specs.Tick.{withWatchdog}
 use Rattle.model.specs.TwoLists.{LearnsNothing}
 use Rattle.pd3120.specs.declared.Answered.{Answered}
+use Rattle.pd3120.specs.declared.Changed.{Changed}
 use Rattle.pd3120.specs.declared.Sampled.{Sampled}
 use Rattle.pd3120.specs.declared.samples.Taken.{Taken}
 use Rattle.pd3120.specs.declared.Started.{Started}
@@ -23,6 +28,18 @@ use Rattle.pd3120.specs.declared.Started.{Started}
 -- what a wire call answers: its reply, DataError and GeneralError; and the box that it leaves
 abbrev pub answeredBy : Stepped → Answered
 answeredBy s = record { after = s .box; reply = s .answer .reply; «data_error» = s .answer .data-error; «general_error» = s .answer .general-error }
+
+-- the same of a read, with the two parts of the box that it may change: the service record, and channel i, counted from 0
+abbrev pub changedBy : ℕ → Stepped → Changed
+changedBy i s =
+    record { service = s .box .service; at = i; channel = getD (s .box .channels) i nothing; reply = s .answer .reply; «data_error» = s .answer .data-error; «general_error» = s .answer .general-error }
+
+-- what the model's `cleared` and `preset` do to the service channel's own record
+abbrev pub clearedRecord : Service → Service
+clearedRecord v = record { watchdog = v .watchdog; act = withWatchdog false (v .act); his = v .his }
+
+abbrev pub presetRecord : Shared → Service → Service
+presetRecord s v = record { watchdog = s .preset; act = v .act; his = v .his }
 
 -- "A sample answers its number alone"
 abbrev pub sampledBy : Stepped → Sampled

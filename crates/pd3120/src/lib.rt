@@ -2,17 +2,25 @@
 // bytes of a wire call stand in slices beside it. No function asks anything of its caller.
 ghost use mathlib.Core.Path.{_≡_};
 ghost use mathlib.Core.Bool.{false};
+ghost use Prim.Native.Nat.{_<_};
 ghost use Rattle.model.specs.Questions.{storeReply};
 ghost use Rattle.model.specs.Tick.{ticked};
-ghost use Rattle.model.specs.Calls.{read, write, level, current, step, cleared, preset, stored};
-ghost use Rattle.pd3120.specs.Answers.{answeredBy, sampledBy, outputAt, requestOf, lentAfter, PoweredUp};
+ghost use Rattle.model.specs.Calls.{read, write, level, current, step, stored};
+ghost use Rattle.model.specs.Registers.{place};
+ghost use Rattle.reads.specs.Left.{slotOf};
+ghost use Rattle.reads.specs.Reading.{putBack};
+ghost use Rattle.pd3120.specs.Answers.{answeredBy, changedBy, sampledBy, outputAt, requestOf, lentAfter, clearedRecord, presetRecord, PoweredUp};
 
 pub mod replies;
 pub mod samples;
 
+use errors::words;
 use model::Call;
+use model::Channel;
 use model::Module;
 use model::Reply;
+use model::Service;
+use model::Shared;
 
 // What power-up answers, and the box.
 pub struct Started {
@@ -23,6 +31,17 @@ pub struct Started {
 // What a wire call answers, and the box that it leaves.
 pub struct Answered {
     pub after: Module,
+    pub reply: Reply,
+    pub data_error: bool,
+    pub general_error: bool,
+}
+
+// What a read answers, and the two parts of the box that it may change: the service record and a
+// channel, counted from 0.
+pub struct Changed {
+    pub service: Service,
+    pub at: usize,
+    pub channel: Channel,
     pub reply: Reply,
     pub data_error: bool,
     pub general_error: bool,
@@ -56,42 +75,66 @@ pub fn store(m: Module, buf: &mut [u8]) -> Reply
 }
 
 // Every wire call first clears Act bit 3 of the service channel.
-fn clear(m: Module) -> Module
-    ensures { λ r. ⌜ r ≡ cleared m ⌝ }
+fn clear(v: Service) -> Service
+    ensures { λ r. ⌜ r ≡ clearedRecord v ⌝ }
 {
-    let mut service = m.service;
-    service.act.watchdog = false;
-    let mut next = m;
-    next.service = service;
+    let mut next = v;
+    next.act.watchdog = false;
     next
 }
 
 // And last sets WDTimer to WDPreset.
-fn preset_watchdog(m: Module) -> Module
-    ensures { λ r. ⌜ r ≡ preset m ⌝ }
+fn preset_watchdog(s: Shared, v: Service) -> Service
+    ensures { λ r. ⌜ r ≡ presetRecord s v ⌝ }
 {
-    let preset = m.shared.preset;
-    let mut service = m.service;
-    service.watchdog = preset;
-    let mut next = m;
-    next.service = service;
+    let preset = s.preset;
+    let mut next = v;
+    next.watchdog = preset;
     next
 }
 
-// The two bits are those before the acknowledgement.
+// For a caller that holds the box in its own memory and puts the parts back itself. The two bits are
+// those before the acknowledgement.
+pub fn read_changes(m: Module, swno: u16, buf: &mut [u8]) -> Changed
+    ensures answer { λ r. ⌜ r ≡ changedBy (slotOf (place swno)) (step m (read swno (now (buf .entry)))) ⌝ }
+    ensures back { λ r. ⌜ (r .at < 16) × (putBack (r .service) (r .at) (r .channel) m ≡ step m (read swno (now (buf .entry))) .box) ⌝ }
+    ensures buffer { λ r. ⌜ now (buf .exit) ≡ step m (read swno (now (buf .entry))) .answer .buffer ⌝ }
+{
+    let shared = m.shared;
+    let channels = m.channels;
+    let ready = clear(m.service);
+    let done = reads::read(shared, ready, channels, swno, buf);
+    let left = done.service;
+    let channel = done.channel;
+    let reply = done.reply;
+    let w = done.words;
+    Changed {
+        service: preset_watchdog(shared, left),
+        at: done.at,
+        channel: channel,
+        reply: reply,
+        data_error: errors::data_error(ready, w),
+        general_error: errors::general_error(ready, w),
+    }
+}
+
 pub fn read(m: Module, swno: u16, buf: &mut [u8]) -> Answered
     ensures answer { λ r. ⌜ r ≡ answeredBy (step m (read swno (now (buf .entry)))) ⌝ }
     ensures buffer { λ r. ⌜ now (buf .exit) ≡ step m (read swno (now (buf .entry))) .answer .buffer ⌝ }
 {
-    let ready = clear(m);
-    let done = reads::read(ready, swno, buf);
-    let after = done.after;
+    let done = read_changes(m, swno, buf);
+    let service = done.service;
+    let channel = done.channel;
     let reply = done.reply;
+    let at = done.at;
+    let mut next = m;
+    next.service = service;
+    next.channels[at] = channel;
     Answered {
-        after: preset_watchdog(after),
+        after: next,
         reply: reply,
-        data_error: errors::data_error(ready),
-        general_error: errors::general_error(ready),
+        data_error: done.data_error,
+        general_error: done.general_error,
     }
 }
 
@@ -99,14 +142,23 @@ pub fn read(m: Module, swno: u16, buf: &mut [u8]) -> Answered
 pub fn write(m: Module, swno: u16, bytes: &[u8]) -> Answered
     ensures { λ r. ⌜ r ≡ answeredBy (step m (write swno (now (bytes .entry)))) ⌝ }
 {
-    let done = writes::write(clear(m), swno, bytes);
-    let after = done.after;
+    let ready = clear(m.service);
+    let mut cleared = m;
+    cleared.service = ready;
+    let done = writes::write(cleared, swno, bytes);
     let reply = done.reply;
+    let after = done.after;
+    let shared = after.shared;
+    let left = after.service;
+    let channels = after.channels;
+    let w = words::words(channels);
+    let mut next = after;
+    next.service = preset_watchdog(shared, left);
     Answered {
-        after: preset_watchdog(after),
+        after: next,
         reply: reply,
-        data_error: errors::data_error(after),
-        general_error: errors::general_error(after),
+        data_error: errors::data_error(left, w),
+        general_error: errors::general_error(left, w),
     }
 }
 
