@@ -3,13 +3,19 @@ use mathlib.Core.Path.{_≡_}
 use mathlib.Core.Bool.{Bool, false, cond}
 use mathlib.Core.List.{List}
 use Prim.Native.Nat.{ℕ, _+_, _*_, _/_, _%_, _<_}
+use lib.ListN.{getD}
 use Rattle.model.specs.declared.Module.{Module}
 use Rattle.model.specs.declared.Reply.{Reply}
+use Rattle.model.specs.State.{nothing}
+use Rattle.model.specs.Registers.{place}
 use Rattle.model.specs.Questions.{numberOf, lengthOf, powerUpReply, storeReply}
-use Rattle.model.specs.Calls.{tick, Answer, plainAnswer, Stepped, step, powerUp, stored}
+use Rattle.model.specs.Calls.{read, tick, Answer, plainAnswer, Stepped, step, powerUp, stored}
+use Rattle.reads.specs.Left.{slotOf}
+use Rattle.reads.specs.Reading.{putBack}
 use Rattle.pd3120.specs.declared.samples.Taken.{Taken}
 use Rattle.pd3120_c.specs.declared.ChannelDone.{ChannelDone}
 use Rattle.pd3120_c.specs.declared.Done.{Done}
+use Rattle.pd3120_c.specs.declared.ReadDone.{ReadDone}
 
 -- bits 0 to 7 the number, bits 8 to 23 the length, bit 24 DataError, bit 25 GeneralError
 abbrev pub packed : ℕ → ℕ → Bool → Bool → ℕ
@@ -36,8 +42,14 @@ doneBy s = record { after = s .box; code = answerCode (s .answer) }
 abbrev pub channelDone : Taken → ChannelDone
 channelDone t = record { after = t .after; code = replyCode (t .reply) false false }
 
-abbrev pub LentBy : Stepped → Done → List ℕ → Type 0
-LentBy s d lent′ = (d ≡ doneBy s) × (lent′ ≡ s .answer .buffer)
+-- the two parts of the module that a read may change, put back, are the module that it leaves; the code; and the lent buffer
+abbrev pub readDone : ℕ → Stepped → ReadDone
+readDone i s = record { service = s .box .service; channel = getD (s .box .channels) i nothing; at = i; code = answerCode (s .answer) }
+
+abbrev pub ReadBy : Module → ℕ → List ℕ → ReadDone → List ℕ → Type 0
+ReadBy m n lent d lent′ =
+    let s = step m (read n lent) in
+    (d ≡ readDone (slotOf (place n)) s) × ((d .at < 16) × ((putBack (d .service) (d .at) (d .channel) m ≡ s .box) × (lent′ ≡ s .answer .buffer)))
 
 -- power-up answers its number alone
 abbrev pub started : List ℕ → Stepped

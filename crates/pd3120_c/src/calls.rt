@@ -1,13 +1,14 @@
 // The calls of the library with their answers packed: what each exported function does with a copy
 // of the caller's module, or with a copy of the parts that it needs.
 ghost use mathlib.Core.Path.{_≡_};
-ghost use Rattle.model.specs.Calls.{read, write, step};
+ghost use Rattle.model.specs.Calls.{write, step};
 ghost use Rattle.model.specs.Channel.{takeLevel, takeCurrent};
 ghost use Rattle.model.specs.Questions.{levelReply, currentReply};
 ghost use Rattle.pd3120.specs.Answers.{takenBy};
-ghost use Rattle.pd3120_c.specs.Codes.{started, doneBy, channelDone, LentBy, Stored};
+ghost use Rattle.pd3120_c.specs.Codes.{started, doneBy, channelDone, ReadBy, Stored};
 use crate::ChannelDone;
 use crate::Done;
+use crate::ReadDone;
 use crate::codes;
 use model::Channel;
 use model::Module;
@@ -33,15 +34,18 @@ pub fn store(m: Module, buf: &mut [u8]) -> u32
     codes::pack(reply, false, false)
 }
 
-pub fn read(m: Module, swno: u16, buf: &mut [u8]) -> Done
-    ensures { λ r. ⌜ LentBy (step m (read swno (now (buf .entry)))) r (now (buf .exit)) ⌝ }
+pub fn read(m: Module, swno: u16, buf: &mut [u8]) -> ReadDone
+    ensures { λ r. ⌜ ReadBy m swno (now (buf .entry)) r (now (buf .exit)) ⌝ }
 {
-    let answered = pd3120::read(m, swno, buf);
-    let after = answered.after;
-    let reply = answered.reply;
-    Done {
-        after: after,
-        code: codes::pack(reply, answered.data_error, answered.general_error),
+    let done = pd3120::read_changes(m, swno, buf);
+    let service = done.service;
+    let channel = done.channel;
+    let reply = done.reply;
+    ReadDone {
+        service: service,
+        channel: channel,
+        at: done.at,
+        code: codes::pack(reply, done.data_error, done.general_error),
     }
 }
 

@@ -11,6 +11,7 @@ mod codes;
 
 use model::Channel;
 use model::Module;
+use model::Service;
 use pd3120::samples;
 
 // The module that a call leaves, and the code of its answer.
@@ -22,6 +23,14 @@ pub struct Done {
 // The channel that a sample leaves, and the code of its answer.
 pub struct ChannelDone {
     pub after: Channel,
+    pub code: u32,
+}
+
+// The two parts of the module that a read may change, and the code of its answer.
+pub struct ReadDone {
+    pub service: Service,
+    pub channel: Channel,
+    pub at: usize,
     pub code: u32,
 }
 
@@ -48,7 +57,8 @@ pub extern "C" fn pd3120_read(m: &mut Module, swno: u16, buf: &mut [u8]) -> u32
     ensures { λ r. ⌜ LeftLent (step (now (m .entry)) (read swno (now (buf .entry)))) (now (m .exit)) r (now (buf .exit)) ⌝ }
 {
     let done = calls::read(*m, swno, buf);
-    *m = done.after;
+    m.service = done.service;
+    m.channels[done.at] = done.channel;
     done.code
 }
 

@@ -13,15 +13,18 @@ use Rattle.model.specs.State.{nothing, channelAt, withChannels}
 use Rattle.model.specs.Settings.{digital}
 use Rattle.model.specs.Channel.{takeLevel, takeCurrent}
 use Rattle.model.specs.Questions.{levelReply, currentReply, powerUpReply}
-use Rattle.model.specs.Calls.{level, current, Stepped, sampledAs, step, powerUp}
+use Rattle.model.specs.Calls.{read, level, current, Stepped, sampledAs, step, powerUp}
+use Rattle.reads.specs.Reading.{putBack}
 use Rattle.pd3120.specs.declared.Answered.{Answered}
 use Rattle.pd3120.specs.declared.Sampled.{Sampled}
+use Rattle.pd3120.specs.declared.Changed.{Changed}
 use Rattle.pd3120.specs.declared.samples.Taken.{Taken}
-use Rattle.pd3120.specs.Answers.{answeredBy, sampleSlot, takenBy}
+use Rattle.pd3120.specs.Answers.{answeredBy, changedBy, sampleSlot, takenBy}
 use Rattle.pd3120.proofs.Laws.Samples.{sampleAt, put-back, level-digital, current-digital}
 use Rattle.pd3120_c.specs.declared.ChannelDone.{ChannelDone}
 use Rattle.pd3120_c.specs.declared.Done.{Done}
-use Rattle.pd3120_c.specs.Codes.{replyCode, answerCode, doneBy, channelDone, started, Left}
+use Rattle.pd3120_c.specs.declared.ReadDone.{ReadDone}
+use Rattle.pd3120_c.specs.Codes.{replyCode, answerCode, doneBy, channelDone, readDone, ReadBy, started, Left, LeftLent}
 
 -- what the caller has of such a pair
 pub left : (s : Stepped) (d : Done) → d ≡ doneBy s → Left s (d .after) (d .code)
@@ -30,6 +33,15 @@ left s d e = (ap (λ (a : Done). a .after) e, ap (λ (a : Done). a .code) e)
 pub wire-done : (s : Stepped) (a : Answered) (code : ℕ) → a ≡ answeredBy s → code ≡ replyCode (a .reply) (a .«data_error») (a .«general_error»)
     → record { after = a .after; code = code } ≡ doneBy s
 wire-done s a code e f = rw (f, e)
+
+pub read-done : (i : ℕ) (s : Stepped) (c : Changed) (code : ℕ) → c ≡ changedBy i s → code ≡ replyCode (c .reply) (c .«data_error») (c .«general_error»)
+    → record { service = c .service; channel = c .channel; at = c .at; code = code } ≡ readDone i s
+read-done i s c code e f = rw (f, e)
+
+-- what the caller has of a read whose parts are put back
+pub read-left : (m : Module) (n : ℕ) (lent : List ℕ) (d : ReadDone) (lent′ : List ℕ) → ReadBy m n lent d lent′
+    → LeftLent (step m (read n lent)) (putBack (d .service) (d .at) (d .channel) m) (d .code) lent′
+read-left m n lent d lent′ p = ((p .1 .1 .0, ap (λ (a : ReadDone). a .code) (p .0)), p .1 .1 .1)
 
 -- a sample's channel
 pub taken-done : (t u : Taken) (code : ℕ) → t ≡ u → code ≡ replyCode (t .reply) false false → record { after = t .after; code = code } ≡ channelDone u

@@ -19,8 +19,9 @@ use Rattle.model.specs.Image.{imageSize}
 use Rattle.model.specs.Calls.{Request, read, write, level, current, tick, cleared, readAs, writtenAs, sampledAs, step}
 use Rattle.reads.proofs.Laws.Held.{fits}
 use Rattle.pd3120.specs.declared.Answered.{Answered}
+use Rattle.pd3120.specs.declared.Changed.{Changed}
 use Rattle.pd3120.specs.declared.samples.Taken.{Taken}
-use Rattle.pd3120.specs.Answers.{answeredBy, takenBy}
+use Rattle.pd3120.specs.Answers.{answeredBy, changedBy, takenBy}
 
 answered : (b : Bool) (r : Reply) (w : Refusal) (n : ℕ) → lengthOf r ≤ n → lengthOf (cond b r (Refused w)) ≤ n
 answered true r w n h = h
@@ -64,6 +65,9 @@ step-length m (current k x) =
 step-length m tick = omega arith
 
 -- ---- of what the library's calls give
+pub read-changes-length : (m : Module) (n : ℕ) (lent : List ℕ) (i : ℕ) (c : Changed) → c ≡ changedBy i (step m (read n lent)) → lengthOf (c .reply) ≤ imageSize
+read-changes-length m n lent i c e = rw e (step-length m (read n lent))
+
 pub wire-length : (m : Module) (x : Request) (a : Answered) → a ≡ answeredBy (step m x) → lengthOf (a .reply) ≤ imageSize
 wire-length m x a e = rw e (step-length m x)
 

@@ -24,8 +24,11 @@ use Rattle.model.proofs.Shared.Laws as Sh′
 use Rattle.pd3120_c.specs.declared.ChannelDone.{ChannelDone}
 use Rattle.pd3120_c.proofs.ChannelDone as Cd
 use Rattle.pd3120_c.proofs.ChannelDone.Laws as Cd′
+use Rattle.pd3120_c.specs.declared.ReadDone.{ReadDone}
+use Rattle.pd3120_c.proofs.ReadDone as Rd
+use Rattle.pd3120_c.proofs.ReadDone.Laws as Rd′
 use Rattle.pd3120_c.proofs.Walks.Plain.{Plain, Packed}
-use Rattle.pd3120_c.proofs.Walks.Rows.{Owned, Rows}
+use Rattle.pd3120_c.proofs.Walks.Rows.{Owned, Rows, Changes}
 
 abbrev pub shared : Plain
 shared = record {
@@ -123,4 +126,24 @@ sampled = record {
   tells = Cd′.lowers .val-is;
   typed = λ 𝓤 H A W x v p. LL.lawful Cd.the-type Cd′.the-laws 𝓤 H A W .typed x _ p .0;
   fields = λ x vs p. let f = LL.owed Cd.the-type Cd′.the-laws x vs p in (own-value channel (x .after) _ (f .0), f .1 .0 .1);
+}
+
+-- the parts of a read, and its code
+abbrev pub changed : Changes service channel
+changed = record {
+  D = ReadDone;
+  name = Rd.struct .name;
+  written = Rd.the-row .written;
+  reaches = Rd.the-row .reaches;
+  own = Rd.the-row .own;
+  coded = Rd.the-row .coded;
+  second = λ d. d .service;
+  item = λ d. d .channel;
+  at = λ d. d .at;
+  code = λ d. d .code;
+  tells = Rd′.lowers .val-is;
+  typed = λ 𝓤 H A W x v p. LL.lawful Rd.the-type Rd′.the-laws 𝓤 H A W .typed x _ p .0;
+  fields = λ x vs p.
+      let f = LL.owed Rd.the-type Rd′.the-laws x vs p in
+      (own-value service (x .service) _ (f .0), (own-value channel (x .channel) _ (f .1 .0), f .1 .1 .1 .0 .1));
 }
