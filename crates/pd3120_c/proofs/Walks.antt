@@ -1,6 +1,5 @@
 pub mod Box
 pub mod Element
-pub mod Input
 pub mod Output
 pub mod Plain
 pub mod PowerUp
@@ -10,3 +9,4 @@ pub mod Sample
 pub mod Store
 pub mod Tick
 pub mod Types
+pub mod Write

@@ -1,9 +1,8 @@
--- The box's module and its parts, as the walks that go into it take them. Assumes nothing.
-use mathlib.Core.Path.{_≡_, refl, sym, _∙_, subst}
+-- The box's module with its parts, and the answers of the calls, as the walks take them. Assumes nothing.
+use mathlib.Core.Path.{refl, sym, _∙_, subst}
 use mathlib.Core.List.{List, [], _∷_, map}
-use Prim.Native.Nat.{ℕ}
 use native.Mathlib.Omega.{arith}
-use lib.ListN.{length, length-map}
+use lib.ListN.{length-map}
 use mir.Val.{Val}
 use denote.Shadow.{shadow}
 use denote.Array.{each}
@@ -24,11 +23,14 @@ use Rattle.model.proofs.Shared.Laws as Sh′
 use Rattle.pd3120_c.specs.declared.ChannelDone.{ChannelDone}
 use Rattle.pd3120_c.proofs.ChannelDone as Cd
 use Rattle.pd3120_c.proofs.ChannelDone.Laws as Cd′
+use Rattle.pd3120_c.specs.declared.Done.{Done}
+use Rattle.pd3120_c.proofs.Done as Dn
+use Rattle.pd3120_c.proofs.Done.Laws as Dn′
 use Rattle.pd3120_c.specs.declared.ReadDone.{ReadDone}
 use Rattle.pd3120_c.proofs.ReadDone as Rd
 use Rattle.pd3120_c.proofs.ReadDone.Laws as Rd′
 use Rattle.pd3120_c.proofs.Walks.Plain.{Plain, Packed}
-use Rattle.pd3120_c.proofs.Walks.Rows.{Owned, Rows, Changes}
+use Rattle.pd3120_c.proofs.Walks.Rows.{Owned, Rows, rows, Changes}
 
 abbrev pub shared : Plain
 shared = record {
@@ -110,6 +112,26 @@ box = record {
   whole = λ s v cs p q r n. ((Sh′.lowered s ∷ [], (Sv′.lowered v ∷ [], (_ ∷ [], tt))), (refl, (p, (q, ((map Ch′.lowered cs, ((refl, length-map cs (Ch.the-type .to) ∙ n), owned-each cs r)), tt)))));
   small = tt;
   fits = λ k l. omega (arith, l);
+}
+
+-- the module as one value
+abbrev pub held : Plain
+held = rows shared service channel box
+
+-- ---- the answers: a module and a code
+abbrev pub answer : Packed held
+answer = record {
+  D = Done;
+  name = Dn.struct .name;
+  written = Dn.the-row .written;
+  reaches = Dn.the-row .reaches;
+  own = Dn.the-row .own;
+  coded = Dn.the-row .coded;
+  after = λ d. d .after;
+  code = λ d. d .code;
+  tells = Dn′.lowers .val-is;
+  typed = λ 𝓤 H A W x v p. LL.lawful Dn.the-type Dn′.the-laws 𝓤 H A W .typed x _ p .0;
+  fields = λ x vs p. let f = LL.owed Dn.the-type Dn′.the-laws x vs p in (own-value held (x .after) _ (f .0), f .1 .0 .1);
 }
 
 -- a sample's channel and code

@@ -1,7 +1,7 @@
 -- An element of an array's cell, for a proof that walks code over an array in memory, beside `types.Part`'s `sub` for a field of a struct's cell.
 --     elem us k p        element k of the array's cell that p finds, at the place that MIR's `offset` computes, k times the element's size past the array's
 -- Assumes `Given` (of it `at-elems` and `elems-at`).
-use mathlib.Core.Path.{_≡_, refl, sym, ap, _∙_, subst}
+use mathlib.Core.Path.{_≡_, ap, _∙_, subst}
 use Prim.Native.Nat.{ℕ, zero, suc, _+_, _*_, _<_}
 use native.Mathlib.Nat.{not-suc-le-zero, le-of-suc-le-suc}
 use mathlib.Core.List.{List, [], _∷_}

@@ -1,4 +1,4 @@
--- The types of the exported functions, as the walks take them: numbers, a bool, a float, the box's module and a call's answer. Assumes nothing.
+-- The types of the exported functions' arguments, as the walks take them: numbers, a bool, a float, and bytes. Assumes nothing.
 use mathlib.Core.Bool.{Bool}
 use mathlib.Core.List.{List, [], _∷_}
 use Prim.Native.Nat.{ℕ}
@@ -12,14 +12,7 @@ use denote.Plain.{UInt, uint-tells, uint-lawful, bool-tells, bool-lawful}
 use denote.Floats.{float-tells, float-lawful}
 use denote.Ref.{RefT, refCoded}
 use denote.Slice.{sliceTy, sliceVal, ShrSlice, shr-slice-tells, shr-slice-lawful, shr-slice-copy}
-use denote.Struct.Laws as LL
-use Rattle.model.specs.declared.Module.{Module}
-use Rattle.model.proofs.Module as T
-use Rattle.model.proofs.Module.Laws as T′
-use Rattle.pd3120_c.specs.declared.Done.{Done}
-use Rattle.pd3120_c.proofs.Done as R
-use Rattle.pd3120_c.proofs.Done.Laws as R′
-use Rattle.pd3120_c.proofs.Walks.Plain.{Plain, copy, Input, Packed}
+use Rattle.pd3120_c.proofs.Walks.Plain.{Plain, Input}
 
 abbrev number : Width → Plain
 number w = record {
@@ -72,23 +65,7 @@ real = record {
   pure = λ x vs. (tt, tt);
 }
 
--- ---- inputs: a plain value, and bytes
-abbrev pub value : Plain → Input 0
-value P = record {
-  D = P .D;
-  mir-out = P .mir;
-  mir-in = P .mir;
-  written-out = P .written;
-  written-in = P .written;
-  reaches = P .reaches;
-  own = λ κs. P .own;
-  coded = P .coded;
-  val = P .val;
-  tells = λ κs. P .tells;
-  typed = λ 𝓤 H A W κs. P .typed 𝓤 H A W;
-  twice = λ 𝓤 H A W κs. copy P 𝓤 H A W .twice;
-}
-
+-- ---- an input: bytes behind a reference
 abbrev slice : ℕ → Ty
 slice k = sliceTy (tyRef (named k) imm (tyInt w8))
 
@@ -106,34 +83,4 @@ bytes = record {
   tells = λ κs. shr-slice-tells (named 1) (κs .0) u8;
   typed = λ 𝓤 H A W κs y p. shr-slice-lawful 𝓤 H A W (named 1) (κs .0) u8 .typed y _ p .0;
   twice = λ 𝓤 H A W κs. shr-slice-copy 𝓤 H A W (named 1) (κs .0) u8 .twice;
-}
-
--- ---- the module and the answer
-abbrev pub held : Plain
-held = record {
-  D = Module;
-  mir = T′.mir;
-  written = T.the-row .written;
-  reaches = T.the-row .reaches;
-  own = T.the-row .own;
-  coded = T.the-row .coded;
-  val = LL.val T.the-type T′.the-laws;
-  tells = LL.tells T.the-type T′.the-laws;
-  typed = λ 𝓤 H A W x p. LL.lawful T.the-type T′.the-laws 𝓤 H A W .typed x _ p .0;
-  pure = λ x vs. T′.the-field-plain (T.the-type .to x) vs;
-}
-
-abbrev pub answer : Packed held
-answer = record {
-  D = Done;
-  name = R.struct .name;
-  written = R.the-row .written;
-  reaches = R.the-row .reaches;
-  own = R.the-row .own;
-  coded = R.the-row .coded;
-  after = λ d. d .after;
-  code = λ d. d .code;
-  tells = LL.tells R.the-type R′.the-laws;
-  typed = λ 𝓤 H A W x v p. LL.lawful R.the-type R′.the-laws 𝓤 H A W .typed x _ p .0;
-  fields = λ x vs p. let f = LL.owed R.the-type R′.the-laws x vs p in (f .0, f .1 .0 .1);
 }

@@ -7,7 +7,8 @@ use mathlib.Core.Bool.{Bool}
 use Prim.Native.Nat.{ℕ}
 use Rattle.model.specs.declared.Module.{Module}
 use Rattle.pd3120.specs.Answers.{outputAt}
-use Rattle.pd3120_c.proofs.Walks.Types.{held, byte, flag}
+use Rattle.pd3120_c.proofs.Walks.Types.{byte, flag}
+use Rattle.pd3120_c.proofs.Walks.Box.{held}
 use Rattle.pd3120_c.proofs.Walks.Output.{Called, meets}
 use Rattle.pd3120.proofs.output.Symbol as call-def
 use Rattle.pd3120.proofs.output.Symbol.{name as #call}

@@ -10,7 +10,8 @@ use Rattle.model.specs.declared.Module.{Module}
 use Rattle.pd3120_c.specs.declared.Done.{Done}
 use Rattle.pd3120_c.specs.Codes.{doneBy, started, Left}
 use Rattle.pd3120_c.proofs.Laws.Answers.{left}
-use Rattle.pd3120_c.proofs.Walks.Types.{held, bytes, answer}
+use Rattle.pd3120_c.proofs.Walks.Types.{bytes}
+use Rattle.pd3120_c.proofs.Walks.Box.{held, answer}
 use Rattle.pd3120_c.proofs.Walks.PowerUp.{Called, meets}
 use Rattle.pd3120_c.proofs.calls.power_up.Symbol as call-def
 use Rattle.pd3120_c.proofs.calls.power_up.Symbol.{name as #call}

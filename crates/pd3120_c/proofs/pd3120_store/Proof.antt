@@ -3,7 +3,7 @@ use contract.Running.{givenOf, tables, tablesOf}
 use denote.Triple.Spec.{tripleOf}
 use denote.Triple.Table.{entered, cited}
 use Rattle.pd3120_c.specs.Codes.{Stored}
-use Rattle.pd3120_c.proofs.Walks.Types.{held}
+use Rattle.pd3120_c.proofs.Walks.Box.{held}
 use Rattle.pd3120_c.proofs.Walks.Store.{Called, meets}
 use Rattle.pd3120_c.proofs.calls.store.Symbol as call-def
 use Rattle.pd3120_c.proofs.calls.store.Symbol.{name as #call}

@@ -7,7 +7,7 @@ use Rattle.model.specs.declared.Module.{Module}
 use Rattle.model.specs.Tick.{ticked}
 use Rattle.model.specs.Calls.{step}
 use Rattle.pd3120_c.specs.Codes.{Ticked}
-use Rattle.pd3120_c.proofs.Walks.Types.{held}
+use Rattle.pd3120_c.proofs.Walks.Box.{held}
 use Rattle.pd3120_c.proofs.Walks.Tick.{Called, meets}
 use Rattle.pd3120.proofs.tick.Symbol as call-def
 use Rattle.pd3120.proofs.tick.Symbol.{name as #call}

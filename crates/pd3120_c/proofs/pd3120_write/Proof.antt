@@ -1,4 +1,4 @@
--- `pd3120_write` meets its contract, by the walk of `Walks/Input.antt`. Assumes nothing.
+-- `pd3120_write` meets its contract, by the walk of `Walks/Write.antt`. Assumes nothing.
 use contract.Running.{givenOf, tables, tablesOf}
 use denote.Triple.Spec.{tripleOf}
 use denote.Triple.Table.{entered, cited}
@@ -11,8 +11,9 @@ use Rattle.model.specs.Calls.{write, step}
 use Rattle.pd3120_c.specs.declared.Done.{Done}
 use Rattle.pd3120_c.specs.Codes.{doneBy, Left}
 use Rattle.pd3120_c.proofs.Laws.Answers.{left}
-use Rattle.pd3120_c.proofs.Walks.Types.{held, word, bytes, answer}
-use Rattle.pd3120_c.proofs.Walks.Input.{Called, meets}
+use Rattle.pd3120_c.proofs.Walks.Types.{word, bytes}
+use Rattle.pd3120_c.proofs.Walks.Box.{held, answer}
+use Rattle.pd3120_c.proofs.Walks.Write.{Called, meets}
 use Rattle.pd3120_c.proofs.calls.write.Symbol as call-def
 use Rattle.pd3120_c.proofs.calls.write.Symbol.{name as #call}
 use Rattle.pd3120_c.proofs.calls.write.Met as call-thm

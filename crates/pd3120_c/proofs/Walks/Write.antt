@@ -1,7 +1,7 @@
--- The walk of an exported call that takes a value and an input. A function of the shape
+-- The walk of an exported call that takes a value and an input, and puts the whole module back. A function of the shape
 --     pub extern "C" fn f(m: &mut S, i: I, j: J) -> u32 { let done = call(*m, i, j); *m = done.after; done.code }
 -- leaves Q, where its callee, of which only its contract is known, gives a `done` of which P holds, and Q follows from P.
--- `fn-of` is its MIR but for the callee's key. J is a plain value, or bytes behind a reference.
+-- `fn-of` is its MIR but for the callee's key. J is what is passed on as it came, as bytes behind a reference.
 -- The borrow of m is opened, its value copied out for the call, the callee's stored in its place, and the borrow closed at that value.
 -- Assumes nothing.
 use mathlib.Core.Path.{refl, ap}
