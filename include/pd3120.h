@@ -20,7 +20,7 @@
  * - a buffer is not null (checked; there it may be null where its length is 0);
  * - a buffer and the module have no byte in common (checked);
  * - no other thread uses the module or the buffer during the call;
- * - the stack has room: as built for x86-64, 17 KiB for a read and 5 KiB for any other call.
+ * - the stack has room: as built for x86-64, 5 KiB for any call.
  */
 #ifndef PD3120_H
 #define PD3120_H
