@@ -72,13 +72,12 @@ pub fn input_becomes(b: bool, ch: Channel) -> Channel
     next
 }
 
+// While input is simulated, the level that InFlag has already is taken, which changes nothing.
 pub fn take_level(b: bool, ch: Channel) -> Channel
     ensures { λ r. ⌜ r ≡ takeLevel b ch ⌝ }
 {
-    if settings::simulates_input(ch) {
-        return ch;
-    }
-    input_becomes(b, ch)
+    let level = choice::flag(settings::simulates_input(ch), ch.flags.input, b);
+    input_becomes(level, ch)
 }
 
 // What FlagReg bit 6 and InFlags do.
