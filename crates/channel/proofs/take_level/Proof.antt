@@ -32,8 +32,13 @@ unfolding takeLevel
 returns c =
     let a = c .before .before .before .args in
     let ch = a .ch in
-    rw (c .input-becomes .ensures, c .before .flag .ensures, c .before .before .simulates-input .ensures,
-    picked (λ (l : Bool). inputBecomes l ch) (simulatesInput ch) (inFlag ch) (a .b), as-it-is ch)
+    rw (
+      c .input-becomes .ensures,
+      c .before .flag .ensures,
+      c .before .before .simulates-input .ensures,
+      picked (λ (l : Bool). inputBecomes l ch) (simulatesInput ch) (inFlag ch) (a .b),
+      as-it-is ch,
+    )
 
 pub take-level-spec : {M : Type 1} → statement M
 take-level-spec = tie.close (tie.spec simulates-input-requires flag-requires input-becomes-requires returns)
