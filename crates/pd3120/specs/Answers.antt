@@ -1,6 +1,6 @@
 -- The public answers beside the model's. The paper's number and length of a reply are `numberOf` and `lengthOf` of the model's Questions. Definitions only.
 use mathlib.Core.Path.{_≡_}
-use mathlib.Core.Bool.{Bool, false, cond, _&&_}
+use mathlib.Core.Bool.{Bool, cond, _&&_}
 use mathlib.Core.List.{List}
 use Prim.Native.Nat.{ℕ, _-_}
 use lib.ListN.{getD}
@@ -17,7 +17,6 @@ use Rattle.model.specs.Settings.{digital, output}
 use Rattle.model.specs.Questions.{powerUpReply}
 use Rattle.model.specs.Calls.{Request, read, write, level, current, tick, Stepped, step, powerUp}
 use Rattle.model.specs.Image.{setupOf, encode}
-use Rattle.model.specs.Tick.{withWatchdog}
 use Rattle.model.specs.TwoLists.{LearnsNothing}
 use Rattle.pd3120.specs.declared.Answered.{Answered}
 use Rattle.pd3120.specs.declared.Changed.{Changed}
@@ -34,12 +33,12 @@ abbrev pub changedBy : ℕ → Stepped → Changed
 changedBy i s =
     record { service = s .box .service; at = i; channel = getD (s .box .channels) i nothing; reply = s .answer .reply; «data_error» = s .answer .data-error; «general_error» = s .answer .general-error }
 
--- what the model's `cleared` and `preset` do to the service channel's own record
-abbrev pub clearedRecord : Service → Service
-clearedRecord v = record { watchdog = v .watchdog; act = withWatchdog false (v .act); his = v .his }
+-- r is the service record that f leaves of any box with the record v, and, where f looks at it, the shared record s
+abbrev pub RecordBy : (Module → Module) → Service → Service → Type 0
+RecordBy f v r = (m : Module) → m .service ≡ v → r ≡ f m .service
 
-abbrev pub presetRecord : Shared → Service → Service
-presetRecord s v = record { watchdog = s .preset; act = v .act; his = v .his }
+abbrev pub SharedBy : (Module → Module) → Shared → Service → Service → Type 0
+SharedBy f s v r = (m : Module) → m .shared ≡ s → m .service ≡ v → r ≡ f m .service
 
 -- "A sample answers its number alone"
 abbrev pub sampledBy : Stepped → Sampled

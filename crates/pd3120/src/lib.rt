@@ -5,11 +5,11 @@ ghost use mathlib.Core.Bool.{false};
 ghost use Prim.Native.Nat.{_<_};
 ghost use Rattle.model.specs.Questions.{storeReply};
 ghost use Rattle.model.specs.Tick.{ticked};
-ghost use Rattle.model.specs.Calls.{read, write, level, current, step, stored};
+ghost use Rattle.model.specs.Calls.{read, write, level, current, step, cleared, preset, stored};
 ghost use Rattle.model.specs.Registers.{place};
 ghost use Rattle.reads.specs.Left.{slotOf};
 ghost use Rattle.reads.specs.Reading.{putBack};
-ghost use Rattle.pd3120.specs.Answers.{answeredBy, changedBy, sampledBy, outputAt, requestOf, lentAfter, clearedRecord, presetRecord, PoweredUp};
+ghost use Rattle.pd3120.specs.Answers.{answeredBy, changedBy, sampledBy, outputAt, requestOf, lentAfter, RecordBy, SharedBy, PoweredUp};
 
 pub mod replies;
 pub mod samples;
@@ -76,7 +76,7 @@ pub fn store(m: Module, buf: &mut [u8]) -> Reply
 
 // Every wire call first clears Act bit 3 of the service channel.
 fn clear(v: Service) -> Service
-    ensures { λ r. ⌜ r ≡ clearedRecord v ⌝ }
+    ensures { λ r. ⌜ RecordBy cleared v r ⌝ }
 {
     let mut next = v;
     next.act.watchdog = false;
@@ -85,7 +85,7 @@ fn clear(v: Service) -> Service
 
 // And last sets WDTimer to WDPreset.
 fn preset_watchdog(s: Shared, v: Service) -> Service
-    ensures { λ r. ⌜ r ≡ presetRecord s v ⌝ }
+    ensures { λ r. ⌜ SharedBy preset s v r ⌝ }
 {
     let preset = s.preset;
     let mut next = v;

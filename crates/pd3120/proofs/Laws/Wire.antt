@@ -11,7 +11,7 @@ use Rattle.model.specs.declared.Reply.the-variants.{Done, Refused}
 use Rattle.model.specs.Errors.{dataError, generalError}
 use Rattle.model.specs.Registers.{Place, place}
 use Rattle.model.specs.Questions.{readReply, writeReply}
-use Rattle.model.specs.Calls.{read, write, wireAnswer, cleared, preset, readAs, writtenAs, thenPreset, step}
+use Rattle.model.specs.Calls.{read, write, Stepped, wireAnswer, cleared, preset, readAs, writtenAs, thenPreset, step}
 use Rattle.errors.specs.Words.{OfBox}
 use Rattle.reads.specs.declared.Reading.{Reading}
 use Rattle.reads.specs.Left.{slotOf}
@@ -19,9 +19,10 @@ use Rattle.reads.specs.Reading.{boxOf, putBack, leaves, fills, readingOf, buffe
 use Rattle.reads.proofs.Back.{slot-below, put-back}
 use Rattle.writes.specs.declared.Written.{Written}
 use Rattle.writes.specs.Accepted.{effect, writeOf}
-use Rattle.pd3120.specs.Answers.{answeredBy, changedBy, clearedRecord, presetRecord}
+use Rattle.pd3120.specs.declared.Changed.{Changed}
+use Rattle.pd3120.specs.Answers.{answeredBy, changedBy}
 
-pub cleared-box : (m : Module) (v : Service) → v ≡ clearedRecord (m .service) → boxOf (m .shared) v (m .channels) ≡ cleared m
+pub cleared-box : (m : Module) (v : Service) → v ≡ cleared m .service → boxOf (m .shared) v (m .channels) ≡ cleared m
 unfolding cleared
 cleared-box m v e = rw e
 
@@ -41,11 +42,11 @@ write-cases (Done n) p bs m = refl
 write-cases (Refused w) p bs m = refl
 
 -- a read, from what each of its parts gives
-module _ (m : Module) (n : ℕ) (lent : List ℕ) (l : length (m .channels) ≡ 16) (v : Service) (e : v ≡ clearedRecord (m .service)) where
+module _ (m : Module) (n : ℕ) (lent : List ℕ) (l : length (m .channels) ≡ 16) (v : Service) (e : v ≡ cleared m .service) where
   pub read-buffer : (buffer : List ℕ) → buffer ≡ bufferOf (boxOf (m .shared) v (m .channels)) n lent → buffer ≡ step m (read n lent) .answer .buffer
   read-buffer buffer f = rw (f, cleared-box m v e, read-step m n lent)
 
-  module _ (d : Reading) (f : d ≡ readingOf (boxOf (m .shared) v (m .channels)) n lent) (after : Service) (g : after ≡ presetRecord (m .shared) (d .service)) where
+  module _ (d : Reading) (f : d ≡ readingOf (boxOf (m .shared) v (m .channels)) n lent) (after : Service) (g : after ≡ preset (boxOf (m .shared) (d .service) (m .channels)) .service) where
     is-reading : d ≡ readingOf (cleared m) n lent
     is-reading = f ∙ ap (λ (b : Module). readingOf b n lent) (cleared-box m v e)
 
@@ -61,6 +62,12 @@ module _ (m : Module) (n : ℕ) (lent : List ℕ) (l : length (m .channels) ≡ 
         let w = ap (λ (x : Reading). x .words) is-reading in
         let shared = ap (λ (x : Module). x .shared) (put-back b n lent l) in
         rw (h b (sym e) l w, i b (sym e) l w, g, is-reading, read-step m n lent, ← shared)
+
+-- the box with the parts put back
+pub read-whole : (m : Module) (i : ℕ) (s : Stepped) (d : Changed) → d ≡ changedBy i s → (after : Module) → after ≡ putBack (d .service) (d .at) (d .channel) m
+    → putBack (d .service) (d .at) (d .channel) m ≡ s .box
+    → record { after = after; reply = d .reply; «data_error» = d .«data_error»; «general_error» = d .«general_error» } ≡ answeredBy s
+read-whole m i s d e after f g = rw (f, g, e)
 
 -- a write
 pub write-answer : (m : Module) (n : ℕ) (bs : List ℕ) (ready : Module) (d : Written) (after : Module) (act his : Bool)

@@ -1,6 +1,11 @@
 -- `read` meets its contract. Assumes nothing.
 use native.Mathlib.Omega.{arith}
 use borrow.Author.Needs.{needs}
+use mathlib.Core.Path.{refl}
+use Rattle.model.specs.Registers.{place}
+use Rattle.model.specs.Calls.{read, step}
+use Rattle.reads.specs.Left.{slotOf}
+use Rattle.pd3120.proofs.Laws.Wire.{read-whole}
 use Rattle.pd3120.proofs.read.Statement.{statement}
 use Rattle.pd3120.proofs.read.Tie as tie
 
@@ -18,8 +23,10 @@ same-length c = search needs
 
 returns : tie.Need-returns
 returns c =
-    let r = c .before .before .before .before .read-changes in
-    (rw (r .ensures .1 .0 .1, r .ensures .0), r .ensures .1 .1)
+    let b = c .before .before .before .before in
+    let s = b .before .before .before .args in
+    let r = b .read-changes in
+    (read-whole (s .m) (slotOf (place (s .swno))) (step (s .m) (read (s .swno) (s .buf .now))) (r .result) (r .ensures .0) _ refl (r .ensures .1 .0 .1), r .ensures .1 .1)
 
 pub read-spec : {M : Type 1} → statement M
 read-spec =

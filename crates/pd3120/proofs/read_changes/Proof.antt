@@ -1,7 +1,8 @@
 -- `read_changes` meets its contract. That the box has sixteen channels stands too deep for the search, and is named. Assumes nothing.
-use mathlib.Core.Path.{_≡_}
+use mathlib.Core.Path.{_≡_, refl}
 use lib.ListN.{length, length-map}
 use borrow.Author.Needs.{needs}
+use Rattle.reads.specs.Reading.{boxOf}
 use Rattle.pd3120.proofs.Laws.Wire.{read-buffer, read-back, read-changed}
 use Rattle.pd3120.proofs.read_changes.Statement.{statement}
 use Rattle.pd3120.proofs.read_changes.Tie as tie
@@ -35,9 +36,11 @@ returns c =
     let k = c .before .before .before .before .before .before .before .before .before .before .clear in
     let r = c .before .before .before .before .before .before .before .before .read in
     let f = r .ensures .0 in
-    let w = c .before .before .preset-watchdog in (
-      read-changed m n lent l (k .result) (k .ensures) (r .result) f (w .result) (w .ensures) _ _ (c .before .data-error .ensures) (c .general-error .ensures),
-      (read-back m n lent l (k .result) (k .ensures) (r .result) f (w .result) (w .ensures), read-buffer m n lent l (k .result) (k .ensures) _ (r .ensures .1)),
+    let w = c .before .before .preset-watchdog in
+    let e = k .ensures m refl in
+    let g = w .ensures (boxOf (m .shared) (r .result .service) (m .channels)) refl refl in (
+      read-changed m n lent l (k .result) e (r .result) f (w .result) g _ _ (c .before .data-error .ensures) (c .general-error .ensures),
+      (read-back m n lent l (k .result) e (r .result) f (w .result) g, read-buffer m n lent l (k .result) e _ (r .ensures .1)),
     )
 
 pub read-changes-spec : {M : Type 1} → statement M
