@@ -56,10 +56,10 @@ pub fn config_from(b: &[u8]) -> Config
     ensures { λ r. ⌜ r ≡ configFrom (now (b .entry)) ⌝ }
 {
     Config {
-        enable: b[0],
-        function: b[1],
-        a: b[2],
-        b: b[3],
+        enablebit: b[0],
+        functions: b[1],
+        ref_a: b[2],
+        ref_b: b[3],
     }
 }
 

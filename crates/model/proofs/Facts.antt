@@ -140,16 +140,16 @@ pub sized : Sized
 sized = record { services = size-service; digitals = size-digital; commons = size-common }
 
 -- ---- wire calls
-preset-by-read : (m : Module) (n : ℕ) (lent : List ℕ) → step m (read n lent) .box .service .watchdog ≡ step m (read n lent) .box .shared .preset
+preset-by-read : (m : Module) (n : ℕ) (lent : List ℕ) → step m (read n lent) .box .service .«wd_timer» ≡ step m (read n lent) .box .shared .«wd_preset»
 unfolding step preset
 preset-by-read m n lent = refl
 
-preset-by-write : (m : Module) (n : ℕ) (bs : List ℕ) → step m (write n bs) .box .service .watchdog ≡ step m (write n bs) .box .shared .preset
+preset-by-write : (m : Module) (n : ℕ) (bs : List ℕ) → step m (write n bs) .box .service .«wd_timer» ≡ step m (write n bs) .box .shared .«wd_preset»
 unfolding step preset
 preset-by-write m n bs = refl
 
 -- no write sets Act bit 3
-errors-clear : (r : ServiceRegister) (v : Service) → v .act .watchdog ≡ false → Writes.errorsWritten r v .act .watchdog ≡ false
+errors-clear : (r : ServiceRegister) (v : Service) → v .act .«wd_run_out» ≡ false → Writes.errorsWritten r v .act .«wd_run_out» ≡ false
 unfolding Writes.errorsWritten Errors.serviceAcknowledged
 errors-clear Highest v e = e
 errors-clear Reset v e = refl
@@ -160,7 +160,7 @@ errors-clear WDPreset v e = e
 errors-clear WriteEnable v e = e
 errors-clear CommonError v e = e
 
-written-clear : (p : Place) (bs : List ℕ) (m : Module) → m .service .act .watchdog ≡ false → Writes.written p bs m .service .act .watchdog ≡ false
+written-clear : (p : Place) (bs : List ℕ) (m : Module) → m .service .act .«wd_run_out» ≡ false → Writes.written p bs m .service .act .«wd_run_out» ≡ false
 unfolding Writes.written
 written-clear (service r) bs m e = errors-clear r (m .service) e
 written-clear (digital k r) bs m e = e
@@ -168,11 +168,11 @@ written-clear (common r) bs m e = e
 written-clear unlisted bs m e = e
 written-clear beyond bs m e = e
 
-cleared-by-write : (m : Module) (n : ℕ) (bs : List ℕ) → step m (write n bs) .box .service .act .watchdog ≡ false
+cleared-by-write : (m : Module) (n : ℕ) (bs : List ℕ) → step m (write n bs) .box .service .act .«wd_run_out» ≡ false
 unfolding step preset cleared
 cleared-by-write m n bs = go (Questions.writeReply (m .shared) (place n) bs)
   where
-    go : (r : Reply) → writtenAs r (place n) bs (cleared m) .box .service .act .watchdog ≡ false
+    go : (r : Reply) → writtenAs r (place n) bs (cleared m) .box .service .act .«wd_run_out» ≡ false
     go (Done q) = written-clear (place n) bs (cleared m) refl
     go (Refused q) = refl
 

@@ -47,11 +47,11 @@ plainAnswer r = record { reply = r; buffer = []; data-error = false; general-err
 
 -- "A wire call, refused or not, first clears Act bit 3 of the service channel"
 unfoldable pub cleared : Module → Module
-cleared m = withServiceRecord (record { watchdog = m .service .watchdog; act = withWatchdog false (m .service .act); his = m .service .his }) m
+cleared m = withServiceRecord (record { «wd_timer» = m .service .«wd_timer»; act = withWatchdog false (m .service .act); his = m .service .his }) m
 
 -- "then sets WDTimer to WDPreset"
 unfoldable pub preset : Module → Module
-preset m = withServiceRecord (record { watchdog = m .shared .preset; act = m .service .act; his = m .service .his }) m
+preset m = withServiceRecord (record { «wd_timer» = m .shared .«wd_preset»; act = m .service .act; his = m .service .his }) m
 
 -- "Bytes past an answer are unchanged"
 abbrev pub overwritten : List ℕ → List ℕ → List ℕ

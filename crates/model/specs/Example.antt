@@ -21,7 +21,7 @@ use Rattle.model.specs.TwoLists.{allNamed, struck, marks}
 abbrev pub outputWith : ℕ → Entry
 outputWith a =
     record {
-      config = record { enable = 0; function = 0x10; a = a; b = 0 };
+      config = record { enablebit = 0; functions = 0x10; «ref_a» = a; «ref_b» = 0 };
       feedback = timer (pos 0);
       out = timer (pos 0);
       min = ofInt binary32 (pos 0);
@@ -37,7 +37,7 @@ outputWith a =
 abbrev pub setup : Setup
 setup =
     record {
-      config = record { enable = 0; function = 0; a = 0; b = 0 };
+      config = record { enablebit = 0; functions = 0; «ref_a» = 0; «ref_b» = 0 };
       preset = timer (pos 256);
       entries = outputWith 2 ∷ entryFrom (replicate entrySize 0) ∷ outputWith 0 ∷ replicate 13 (entryFrom (replicate entrySize 0));
     }

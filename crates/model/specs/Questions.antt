@@ -100,7 +100,7 @@ question5 p lent = leb (size p) (length lent)
 
 -- 6. "On a write of a protected register, WriteEnable TRUE?"
 abbrev pub question6 : Shared → Place → Bool
-question6 s p = not (isProtected (access p)) || s .enabled
+question6 s p = not (isProtected (access p)) || s .«write_enable»
 
 -- 7. "On a write, value allowed?"
 abbrev pub question7 : Place → List ℕ → Bool

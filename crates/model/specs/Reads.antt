@@ -27,7 +27,7 @@ abbrev pub timerBytes : TimerCount → List ℕ
 timerBytes t = realBytes (realOf timerUnits (t .0))
 
 abbrev pub configBytes : Config → List ℕ
-configBytes g = g .enable ∷ g .function ∷ g .a ∷ g .b ∷ []
+configBytes g = g .enablebit ∷ g .functions ∷ g .«ref_a» ∷ g .«ref_b» ∷ []
 
 -- "FlagReg bits: 7 OutFlag, 6 InFlag, 5 InA, 4 InB, 3 Control, 2 FBStatus, 1 Act not 0, 0 zero"
 unfoldable pub flagReg : List Bool → Channel → ℕ
@@ -40,11 +40,11 @@ channelWord p cs = bytesOf 2 (wordOf (map p cs))
 unfoldable pub serviceBytes : ServiceRegister → Module → List ℕ
 serviceBytes Highest m = bytesOf 2 0x011F
 serviceBytes Reset m = 0 ∷ []
-serviceBytes FreeRunTimer m = signedBytes 4 (m .shared .timer .0)
-serviceBytes WDTimer m = timerBytes (m .service .watchdog)
-serviceBytes ModuleConfig m = configBytes (m .shared .config)
-serviceBytes WDPreset m = timerBytes (m .shared .preset)
-serviceBytes WriteEnable m = bitValue (m .shared .enabled) ∷ []
+serviceBytes FreeRunTimer m = signedBytes 4 (m .shared .«free_run_timer» .0)
+serviceBytes WDTimer m = timerBytes (m .service .«wd_timer»)
+serviceBytes ModuleConfig m = configBytes (m .shared .«module_config»)
+serviceBytes WDPreset m = timerBytes (m .shared .«wd_preset»)
+serviceBytes WriteEnable m = bitValue (m .shared .«write_enable») ∷ []
 serviceBytes CommonError m = commonErrorBytes m
 
 unfoldable pub digitalBytes : DigitalRegister → List Bool → Channel → List ℕ

@@ -49,13 +49,13 @@ isSet None = false
 isSet (ToChannel k) = digital k
 
 abbrev pub functions : Channel → Function
-functions ch = functionOf (ch .config .function)
+functions ch = functionOf (ch .config .functions)
 
 abbrev pub refA : Channel → Reference
-refA ch = referenceOf (ch .config .a)
+refA ch = referenceOf (ch .config .«ref_a»)
 
 abbrev pub refB : Channel → Reference
-refB ch = referenceOf (ch .config .b)
+refB ch = referenceOf (ch .config .«ref_b»)
 
 -- "if a reference is set"
 abbrev pub hasReference : Channel → Bool
@@ -63,16 +63,16 @@ hasReference ch = isSet (refA ch) || isSet (refB ch)
 
 -- "Enablebit 0 simulates input, 2 feedback, 5 enables underload, 6 silences overload"
 abbrev pub simulatesInput : Channel → Bool
-simulatesInput ch = bit 0 (ch .config .enable)
+simulatesInput ch = bit 0 (ch .config .enablebit)
 
 abbrev pub simulatesFeedback : Channel → Bool
-simulatesFeedback ch = bit 2 (ch .config .enable)
+simulatesFeedback ch = bit 2 (ch .config .enablebit)
 
 abbrev pub enablesUnderload : Channel → Bool
-enablesUnderload ch = bit 5 (ch .config .enable)
+enablesUnderload ch = bit 5 (ch .config .enablebit)
 
 abbrev pub silencesOverload : Channel → Bool
-silencesOverload ch = bit 6 (ch .config .enable)
+silencesOverload ch = bit 6 (ch .config .enablebit)
 
 -- InFlag of a reference, where `levels` are the InFlags of channels 1 to 16: "0 without a reference"
 abbrev pub levelOf : List Bool → Reference → Bool

@@ -22,7 +22,7 @@ noEntry = entryFrom (replicate entrySize 0)
 abbrev pub firstEntry : ℕ → ℕ → Entry
 firstEntry functions preset =
     record {
-      config = record { enable = 0; function = functions; a = 0; b = 0 };
+      config = record { enablebit = 0; functions = functions; «ref_a» = 0; «ref_b» = 0 };
       feedback = timer (pos 0);
       out = timer (pos preset);
       min = realZero;
@@ -36,7 +36,7 @@ firstEntry functions preset =
 
 abbrev pub boxWith : ℕ → ℕ → Module
 boxWith functions preset =
-    started (record { config = record { enable = 0; function = 0x10; a = 0; b = 0 }; preset = timer (pos 0); entries = firstEntry functions preset ∷ replicate 15 noEntry })
+    started (record { config = record { enablebit = 0; functions = 0x10; «ref_a» = 0; «ref_b» = 0 }; preset = timer (pos 0); entries = firstEntry functions preset ∷ replicate 15 noEntry })
 
 abbrev pub ticks : ℕ → List Request
 ticks zero = []

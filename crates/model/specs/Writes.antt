@@ -77,18 +77,18 @@ operatingFrom bs = record { 0 = unitsOf operatingUnits (realFrom bs) }
 
 -- ---- a service register, in three parts: what every channel may learn, the service channel's own errors, and each channel
 abbrev pub setConfig : Config → Shared → Shared
-setConfig g s = record { timer = s .timer; config = g; preset = s .preset; enabled = s .enabled; saving = s .saving }
+setConfig g s = record { «free_run_timer» = s .«free_run_timer»; «module_config» = g; «wd_preset» = s .«wd_preset»; «write_enable» = s .«write_enable»; «save_ticks» = s .«save_ticks» }
 
 abbrev pub setPreset : TimerCount → Shared → Shared
-setPreset t s = record { timer = s .timer; config = s .config; preset = t; enabled = s .enabled; saving = s .saving }
+setPreset t s = record { «free_run_timer» = s .«free_run_timer»; «module_config» = s .«module_config»; «wd_preset» = t; «write_enable» = s .«write_enable»; «save_ticks» = s .«save_ticks» }
 
 abbrev pub setWriteEnable : Bool → Shared → Shared
-setWriteEnable b s = record { timer = s .timer; config = s .config; preset = s .preset; enabled = b; saving = s .saving }
+setWriteEnable b s = record { «free_run_timer» = s .«free_run_timer»; «module_config» = s .«module_config»; «wd_preset» = s .«wd_preset»; «write_enable» = b; «save_ticks» = s .«save_ticks» }
 
 -- "Reset does the same from the kept values"
 unfoldable pub sharedWritten : ServiceRegister → List ℕ → Shared → Shared
 sharedWritten Highest bs s = s
-sharedWritten Reset bs s = restoredShared (s .config) (s .preset)
+sharedWritten Reset bs s = restoredShared (s .«module_config») (s .«wd_preset»)
 sharedWritten FreeRunTimer bs s = s
 sharedWritten WDTimer bs s = s
 sharedWritten ModuleConfig bs s = setConfig (configFrom bs) s
@@ -99,7 +99,7 @@ sharedWritten CommonError bs s = s
 -- "with His bit 6 instead"
 unfoldable pub errorsWritten : ServiceRegister → Service → Service
 errorsWritten Highest v = v
-errorsWritten Reset v = record { watchdog = v .watchdog; act = noServiceBits; his = externalReset }
+errorsWritten Reset v = record { «wd_timer» = v .«wd_timer»; act = noServiceBits; his = externalReset }
 errorsWritten FreeRunTimer v = v
 errorsWritten WDTimer v = v
 errorsWritten ModuleConfig v = v
@@ -127,10 +127,10 @@ keepIf enabled keep ch = cond enabled (keep ch) ch
 unfoldable pub digitalWritten : DigitalRegister → Shared → List ℕ → Channel → Channel
 digitalWritten FlagReg s bs ch = flagRegWritten (getD bs 0 0) ch
 digitalWritten OutTimer s bs ch = setOutTimer (timerFrom bs) ch
-digitalWritten Counter s bs ch = keepIf (s .enabled) keepCounter (withCounter (signedNumber bs) ch)
+digitalWritten Counter s bs ch = keepIf (s .«write_enable») keepCounter (withCounter (signedNumber bs) ch)
 digitalWritten OutCurrent s bs ch = takeCurrent s (realFrom bs) ch
-digitalWritten OperatingTime s bs ch = keepIf (s .enabled) keepOperating (withOperating (operatingFrom bs) ch)
-digitalWritten UserBytes s bs ch = keepIf (s .enabled) keepUser (withUser bs ch)
+digitalWritten OperatingTime s bs ch = keepIf (s .«write_enable») keepOperating (withOperating (operatingFrom bs) ch)
+digitalWritten UserBytes s bs ch = keepIf (s .«write_enable») keepUser (withUser bs ch)
 digitalWritten FBTimer s bs ch = setFBTimer (timerFrom bs) ch
 digitalWritten FBPreset s bs ch = setFBPreset (timerFrom bs) ch
 digitalWritten OutPreset s bs ch = setOutPreset (timerFrom bs) ch

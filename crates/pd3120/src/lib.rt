@@ -79,7 +79,7 @@ fn clear(v: Service) -> Service
     ensures { λ r. ⌜ RecordBy cleared v r ⌝ }
 {
     let mut next = v;
-    next.act.watchdog = false;
+    next.act.wd_run_out = false;
     next
 }
 
@@ -87,9 +87,9 @@ fn clear(v: Service) -> Service
 fn preset_watchdog(s: Shared, v: Service) -> Service
     ensures { λ r. ⌜ SharedBy preset s v r ⌝ }
 {
-    let preset = s.preset;
+    let preset = s.wd_preset;
     let mut next = v;
-    next.watchdog = preset;
+    next.wd_timer = preset;
     next
 }
 

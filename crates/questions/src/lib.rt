@@ -57,7 +57,7 @@ fn exact(p: Place, bytes: &[u8]) -> bool
 fn enabled(s: Shared, p: Place) -> bool
     ensures { λ b. ⌜ b ≡ question6 s (placed p) ⌝ }
 {
-    !registers::is_protected(registers::access(p)) | s.enabled
+    !registers::is_protected(registers::access(p)) | s.write_enable
 }
 
 // Questions 1, 2 and 5, of a read into a lent buffer.

@@ -95,7 +95,7 @@ pub(crate) fn operating(t: OperatingCount) -> RegisterBytes
 pub(crate) fn config(g: Config) -> RegisterBytes
     ensures { λ r. ⌜ r ≡ held (configBytes g) ⌝ }
 {
-    four([g.enable, g.function, g.a, g.b])
+    four([g.enablebit, g.functions, g.ref_a, g.ref_b])
 }
 
 pub(crate) fn channel_word(which: Flag, channels: [Channel; 16]) -> RegisterBytes

@@ -46,7 +46,7 @@ pub fn is_special(f: Function) -> bool
 pub fn functions(ch: Channel) -> Function
     ensures { λ r. ⌜ r ≡ functions ch ⌝ }
 {
-    function_of(ch.config.function)
+    function_of(ch.config.functions)
 }
 
 // A byte above 16 acts as no reference.
@@ -71,13 +71,13 @@ pub fn is_set(r: Reference) -> bool
 pub fn ref_a(ch: Channel) -> Reference
     ensures { λ r. ⌜ r ≡ refA ch ⌝ }
 {
-    reference_of(ch.config.a)
+    reference_of(ch.config.ref_a)
 }
 
 pub fn ref_b(ch: Channel) -> Reference
     ensures { λ r. ⌜ r ≡ refB ch ⌝ }
 {
-    reference_of(ch.config.b)
+    reference_of(ch.config.ref_b)
 }
 
 pub fn has_reference(ch: Channel) -> bool
@@ -89,25 +89,25 @@ pub fn has_reference(ch: Channel) -> bool
 pub fn simulates_input(ch: Channel) -> bool
     ensures { λ r. ⌜ r ≡ simulatesInput ch ⌝ }
 {
-    ch.config.enable % 2 == 1
+    ch.config.enablebit % 2 == 1
 }
 
 pub fn simulates_feedback(ch: Channel) -> bool
     ensures { λ r. ⌜ r ≡ simulatesFeedback ch ⌝ }
 {
-    ch.config.enable / 4 % 2 == 1
+    ch.config.enablebit / 4 % 2 == 1
 }
 
 pub fn enables_underload(ch: Channel) -> bool
     ensures { λ r. ⌜ r ≡ enablesUnderload ch ⌝ }
 {
-    ch.config.enable / 32 % 2 == 1
+    ch.config.enablebit / 32 % 2 == 1
 }
 
 pub fn silences_overload(ch: Channel) -> bool
     ensures { λ r. ⌜ r ≡ silencesOverload ch ⌝ }
 {
-    ch.config.enable / 64 % 2 == 1
+    ch.config.enablebit / 64 % 2 == 1
 }
 
 // InFlag of a reference, where levels are the InFlags of channels 1 to 16.
@@ -133,7 +133,7 @@ pub fn in_a(levels: [bool; 16], ch: Channel) -> bool
     ensures { λ r. ⌜ r ≡ inA levels ch ⌝ }
 {
     if simulates_feedback(ch) {
-        return ch.flags.out;
+        return ch.flags.out_flag;
     }
     level_of(levels, ref_a(ch))
 }
@@ -142,7 +142,7 @@ pub fn in_b(levels: [bool; 16], ch: Channel) -> bool
     ensures { λ r. ⌜ r ≡ inB levels ch ⌝ }
 {
     if simulates_feedback(ch) {
-        return !ch.flags.out;
+        return !ch.flags.out_flag;
     }
     level_of(levels, ref_b(ch))
 }
@@ -150,5 +150,5 @@ pub fn in_b(levels: [bool; 16], ch: Channel) -> bool
 pub fn output(ch: Channel) -> bool
     ensures { λ r. ⌜ r ≡ output ch ⌝ }
 {
-    ch.flags.out & not_input(functions(ch))
+    ch.flags.out_flag & not_input(functions(ch))
 }

@@ -14,21 +14,21 @@ use model::Shared;
 pub fn save_due(s: Shared) -> bool
     ensures { λ r. ⌜ r ≡ saveDue s ⌝ }
 {
-    1151999 <= s.saving
+    1151999 <= s.save_ticks
 }
 
 pub fn tick_shared(s: Shared) -> Shared
     ensures { λ r. ⌜ r ≡ tickShared s ⌝ }
 {
-    let timer = s.timer;
-    let saving = s.saving;
+    let timer = s.free_run_timer;
+    let saving = s.save_ticks;
     let mut next = s;
-    next.timer = timer.free_run_tick();
+    next.free_run_timer = timer.free_run_tick();
     if save_due(s) {
-        next.saving = 0;
+        next.save_ticks = 0;
         return next;
     }
-    next.saving = saving + 1;
+    next.save_ticks = saving + 1;
     next
 }
 
@@ -36,7 +36,7 @@ pub fn tick_shared(s: Shared) -> Shared
 fn watchdog_on(s: Shared) -> bool
     ensures { λ r. ⌜ r ≡ watchdogOn s ⌝ }
 {
-    s.config.function != 0x10
+    s.module_config.functions != 0x10
 }
 
 fn is_zero(t: TimerCount) -> bool
@@ -55,13 +55,13 @@ pub fn runs_out(s: Shared, t: TimerCount) -> bool
 pub fn tick_service(ran_out: bool, v: Service) -> Service
     ensures { λ r. ⌜ r ≡ tickService «ran_out» v ⌝ }
 {
-    let watchdog = v.watchdog;
-    let act = v.act.watchdog | ran_out;
-    let his = v.his.watchdog | ran_out;
+    let watchdog = v.wd_timer;
+    let act = v.act.wd_run_out | ran_out;
+    let his = v.his.wd_run_out | ran_out;
     let mut next = v;
-    next.watchdog = watchdog.watchdog_tick();
-    next.act.watchdog = act;
-    next.his.watchdog = his;
+    next.wd_timer = watchdog.watchdog_tick();
+    next.act.wd_run_out = act;
+    next.his.wd_run_out = his;
     next
 }
 
@@ -72,7 +72,7 @@ pub fn levels(channels: [Channel; 16]) -> [bool; 16]
     let mut r = [false; 16];
     for k in 0..16 {
         let ch = channels[k];
-        r[k] = ch.flags.input;
+        r[k] = ch.flags.in_flag;
     }
     r
 }
@@ -104,7 +104,7 @@ pub fn tick(m: Module) -> Module
     let before = m.shared;
     let service = m.service;
     let channels = m.channels;
-    let ran_out = runs_out(before, service.watchdog);
+    let ran_out = runs_out(before, service.wd_timer);
     let shared = tick_shared(before);
     Module {
         shared: shared,

@@ -20,7 +20,7 @@ fn set_config(g: Config, s: Shared) -> Shared
     ensures { λ r. ⌜ r ≡ setConfig g s ⌝ }
 {
     let mut next = s;
-    next.config = g;
+    next.module_config = g;
     next
 }
 
@@ -28,7 +28,7 @@ fn set_preset(t: TimerCount, s: Shared) -> Shared
     ensures { λ r. ⌜ r ≡ setPreset t s ⌝ }
 {
     let mut next = s;
-    next.preset = t;
+    next.wd_preset = t;
     next
 }
 
@@ -36,7 +36,7 @@ fn set_write_enable(b: bool, s: Shared) -> Shared
     ensures { λ r. ⌜ r ≡ setWriteEnable b s ⌝ }
 {
     let mut next = s;
-    next.enabled = b;
+    next.write_enable = b;
     next
 }
 

@@ -216,11 +216,11 @@ module _ (c : ℕ) (ns : List ℕ) where
     -- InA and InB of a channel whose references are among ns
     pub inA-alike : (ch : Channel) → Held (inputs ch) → Settings.inA (levels m) ch ≡ Settings.inA (levels m′) ch
     unfolding Settings.inA names
-    inA-alike ch h = ap (λ (x : Bool). cond (Settings.simulatesFeedback ch) (outFlag ch) x) (level-alike (ch .config .a) (within-append ns (namesOf (referenceOf (ch .config .a))) (namesOf (referenceOf (ch .config .b))) h .0))
+    inA-alike ch h = ap (λ (x : Bool). cond (Settings.simulatesFeedback ch) (outFlag ch) x) (level-alike (ch .config .«ref_a») (within-append ns (namesOf (referenceOf (ch .config .«ref_a»))) (namesOf (referenceOf (ch .config .«ref_b»))) h .0))
 
     pub inB-alike : (ch : Channel) → Held (inputs ch) → Settings.inB (levels m) ch ≡ Settings.inB (levels m′) ch
     unfolding Settings.inB names
-    inB-alike ch h = ap (λ (x : Bool). cond (Settings.simulatesFeedback ch) (not (outFlag ch)) x) (level-alike (ch .config .b) (within-append ns (namesOf (referenceOf (ch .config .a))) (namesOf (referenceOf (ch .config .b))) h .1))
+    inB-alike ch h = ap (λ (x : Bool). cond (Settings.simulatesFeedback ch) (not (outFlag ch)) x) (level-alike (ch .config .«ref_b») (within-append ns (namesOf (referenceOf (ch .config .«ref_a»))) (namesOf (referenceOf (ch .config .«ref_b»))) h .1))
 
     -- a register of c reads the same
     bytes-alike : (r : DigitalRegister) → Near (c - 1) (channelAt m c) (channelAt m′ c) → Reads.digitalBytes r (levels m) (channelAt m c) ≡ Reads.digitalBytes r (levels m′) (channelAt m′ c)
@@ -256,12 +256,12 @@ module _ (c : ℕ) (ns : List ℕ) where
     unfolding Tick.reviewed Tick.looked
     reviewed-alike s due ch h = ap (λ (x : Bool). Tick.saved due (Tick.judged s (cond (Tick.lookDue s) (Tick.operated (setFBStatus x ch)) ch))) (feedback-alike ch h)
 
-    pub tick-alike : m .service .watchdog ≡ m′ .service .watchdog → Alike (Tick.ticked m) (Tick.ticked m′)
+    pub tick-alike : m .service .«wd_timer» ≡ m′ .service .«wd_timer» → Alike (Tick.ticked m) (Tick.ticked m′)
     unfolding Tick.ticked
     tick-alike e =
         let s = Tick.tickShared (m .shared) in
         let due = Tick.saveDue (m .shared) in
-        let out = Tick.runsOut (m .shared) (m .service .watchdog) in (
+        let out = Tick.runsOut (m .shared) (m .service .«wd_timer») in (
           ap Tick.tickShared (a .0),
           rw (← a .0, ← e) (channels-map _ _ (λ i x y h.
               record {

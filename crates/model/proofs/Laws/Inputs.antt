@@ -40,7 +40,7 @@ unfoldable pub taken : (Config → Bool) → Bool → Inputs → Inputs
 taken who b n = cond (who (n .config)) (record { level = b; config = n .config }) n
 
 abbrev pub simulated : Config → Bool
-simulated g = bit 0 (g .enable)
+simulated g = bit 0 (g .enablebit)
 
 abbrev pub sensed : Config → Bool
 sensed g = not (simulated g)
@@ -209,10 +209,10 @@ pub in-written : (r : DigitalRegister) (s : Shared) (bs : List ℕ) (ch : Channe
 unfolding write-in Writes.digitalWritten Rules.chConfigWritten
 in-written FlagReg s bs ch = in-flagReg _ ch
 in-written OutTimer s bs ch = refl
-in-written Counter s bs ch = in-keepIf (s .enabled) Rules.keepCounter (λ x. refl) _
+in-written Counter s bs ch = in-keepIf (s .«write_enable») Rules.keepCounter (λ x. refl) _
 in-written OutCurrent s bs ch = in-current s _ ch
-in-written OperatingTime s bs ch = in-keepIf (s .enabled) Rules.keepOperating (λ x. refl) _
-in-written UserBytes s bs ch = in-keepIf (s .enabled) Rules.keepUser (λ x. refl) _
+in-written OperatingTime s bs ch = in-keepIf (s .«write_enable») Rules.keepOperating (λ x. refl) _
+in-written UserBytes s bs ch = in-keepIf (s .«write_enable») Rules.keepUser (λ x. refl) _
 in-written FBTimer s bs ch = refl
 in-written FBPreset s bs ch = refl
 in-written OutPreset s bs ch = refl

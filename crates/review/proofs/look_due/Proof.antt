@@ -14,7 +14,7 @@ returns : tie.Need-returns
 unfolding lookDue
 returns c =
     let s = c .before .before .before .args .s in
-    simp (c .bits-of-i32 .ensures, toZ-ofZ {w = w32} {z = s .timer .0} (search needs), remainder)
+    simp (c .bits-of-i32 .ensures, toZ-ofZ {w = w32} {z = s .«free_run_timer» .0} (search needs), remainder)
 
 pub look-due-spec : {M : Type 1} → statement M
 look-due-spec = tie.close (tie.spec bits-of-i32-requires returns)

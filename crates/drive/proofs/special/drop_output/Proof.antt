@@ -13,7 +13,7 @@ flag-requires c κs = search needs
 returns : tie.Need-returns
 returns c =
     let ch = c .before .before .before .before .args .ch in
-    rw (c .before .flag .ensures) (picked (λ (b : Bool). setOutFlag b ch) (fell ch) false (ch .flags .out))
+    rw (c .before .flag .ensures) (picked (λ (b : Bool). setOutFlag b ch) (fell ch) false (ch .flags .«out_flag»))
 
 pub drop-output-spec : {M : Type 1} → statement M
 drop-output-spec = tie.close (tie.spec flag-requires returns)

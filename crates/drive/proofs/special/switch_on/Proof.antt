@@ -21,7 +21,7 @@ returns : tie.Need-returns
 returns c =
     let ch = c .before .before .before .before .args .ch in
     rw (c .before .load .ensures, c .before .before .flag .ensures, c .before .before .before .rose .ensures)
-    (chosen (λ (l : Channel) (b : Bool). setOutFlag b l) (rose ch) (reload ch) ch true (ch .flags .out))
+    (chosen (λ (l : Channel) (b : Bool). setOutFlag b l) (rose ch) (reload ch) ch true (ch .flags .«out_flag»))
 
 pub switch-on-spec : {M : Type 1} → statement M
 switch-on-spec = tie.close (tie.spec rose-requires flag-requires load-requires returns)
