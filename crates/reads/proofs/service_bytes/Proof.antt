@@ -71,7 +71,7 @@ returns-2 c cs n e = simp (c .one .ensures, c .before .enum-told2 .given .1)
 returns-3 : tie.Need-returns-3
 unfolding serviceBytes
 returns-3 c cs n e =
-    let z = c .before .before .before .before .args .s .timer .0 in
+    let z = c .before .before .before .before .args .s .«free_run_timer» .0 in
     simp (c .signed .ensures, c .before .before .enum-told3 .given .1, toZ-ofZ {w = w32} {z = z} (search needs))
 
 returns-4 : tie.Need-returns-4

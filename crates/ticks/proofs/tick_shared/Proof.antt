@@ -21,7 +21,7 @@ returns c = simp (sym (c .before .save-due .ensures) ∙ c .if1 .taken, c .befor
 add-next : tie.Need-add-next
 unfolding saveDue
 add-next c =
-    let n = c .before .before .before .before .args .s .saving in
+    let n = c .before .before .before .before .args .s .«save_ticks» in
     let l : n < 1151999 = leb-false 1151999 n (sym (c .before .save-due .ensures) ∙ c .if1 .left) in
     let f : n + 1 < 4294967296 = omega arith in
     record { fits = f }
