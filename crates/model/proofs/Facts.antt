@@ -1,4 +1,4 @@
--- The facts of specs/Facts.antt about the table, the sizes, wire calls and worked values: by cases of the registers, and by computation; those about one channel are in
+-- The facts of specs/Facts.antt about sizes, wire calls and worked values: by cases of the registers, and by computation; those about one channel are in
 -- Facts/Steps. Assumes nothing.
 pub mod Steps
 use mathlib.Core.Path.{_≡_, refl, ap}
@@ -9,6 +9,7 @@ use lib.ListN.{length}
 use lib.Ieee.{ofBits, toBits, ofInt, lt, le}
 use Rattle.integers.specs.Bytes as Bytes
 use Rattle.integers.specs.Integers as Integers
+use Rattle.counts.specs.Counts as Counts
 use Rattle.numbers.specs.Reals as Reals
 use Rattle.model.specs.declared.Channel.{Channel}
 use Rattle.model.specs.declared.Service.{Service}
@@ -21,76 +22,18 @@ use Rattle.model.specs.declared.Reply.the-variants.{Done, Refused}
 use Rattle.model.specs.declared.ServiceRegister.the-variants.{Highest, Reset, FreeRunTimer, WDTimer, ModuleConfig, WDPreset, WriteEnable, CommonError}
 use Rattle.model.specs.declared.DigitalRegister.the-variants.{FlagReg, OutTimer, Counter, OutCurrent, OperatingTime, UserBytes, FBTimer, FBPreset, OutPreset, ChConfig, MinCurrent, MaxCurrent, UserReals, Maintenance, ChError}
 use Rattle.model.specs.declared.CommonRegister.the-variants.{OutFlags, InFlags, IOChError, ChError as CommonChError}
-use Rattle.model.specs.State.{channelAt}
+use Rattle.model.specs.State.{channelAt, writeEnable}
 use Rattle.model.specs.Settings as Settings
 use Rattle.model.specs.Errors as Errors
-use Rattle.model.specs.Registers.{Place, service, digital, common, unlisted, beyond, serviceRow, digitalRow, commonRow, place, size}
+use Rattle.model.specs.Registers.{Place, service, digital, common, unlisted, place, size}
 use Rattle.model.specs.Reads as Reads
 use Rattle.model.specs.Reads.{bytesRead}
 use Rattle.model.specs.Tick as Tick
 use Rattle.model.specs.Image as Image
 use Rattle.model.specs.Writes as Writes
 use Rattle.model.specs.Questions as Questions
-use Rattle.model.specs.Calls.{read, write, step, cleared, preset, writtenAs}
-use Rattle.model.specs.Facts.{Found, Sized, restarted, Wired, Worked}
-
--- ---- the table
-find-service : (r : ServiceRegister) → place (serviceRow r .number) ≡ service r
-unfolding place
-find-service Highest = refl
-find-service Reset = refl
-find-service FreeRunTimer = refl
-find-service WDTimer = refl
-find-service ModuleConfig = refl
-find-service WDPreset = refl
-find-service WriteEnable = refl
-find-service CommonError = refl
-
-find-first : (r : DigitalRegister) → place (0x10 + digitalRow r .number) ≡ digital 1 r
-unfolding place
-find-first FlagReg = refl
-find-first OutTimer = refl
-find-first Counter = refl
-find-first OutCurrent = refl
-find-first OperatingTime = refl
-find-first UserBytes = refl
-find-first FBTimer = refl
-find-first FBPreset = refl
-find-first OutPreset = refl
-find-first ChConfig = refl
-find-first MinCurrent = refl
-find-first MaxCurrent = refl
-find-first UserReals = refl
-find-first Maintenance = refl
-find-first ChError = refl
-
-find-last : (r : DigitalRegister) → place (0x100 + digitalRow r .number) ≡ digital 16 r
-unfolding place
-find-last FlagReg = refl
-find-last OutTimer = refl
-find-last Counter = refl
-find-last OutCurrent = refl
-find-last OperatingTime = refl
-find-last UserBytes = refl
-find-last FBTimer = refl
-find-last FBPreset = refl
-find-last OutPreset = refl
-find-last ChConfig = refl
-find-last MinCurrent = refl
-find-last MaxCurrent = refl
-find-last UserReals = refl
-find-last Maintenance = refl
-find-last ChError = refl
-
-find-common : (r : CommonRegister) → place (0x110 + commonRow r .number) ≡ common r
-unfolding place
-find-common OutFlags = refl
-find-common InFlags = refl
-find-common IOChError = refl
-find-common CommonChError = refl
-
-pub found : Found
-found = record { services = find-service; first = find-first; last = find-last; commons = find-common }
+use Rattle.model.specs.Calls.{read, write, step, cleared, watchdogPreset, writeLeaves}
+use Rattle.model.specs.Facts.{Sized, Wired, Worked}
 
 -- ---- sizes
 size-service : (r : ServiceRegister) (m : Module) → length (bytesRead (service r) m) ≡ size (service r)
@@ -141,11 +84,11 @@ sized = record { services = size-service; digitals = size-digital; commons = siz
 
 -- ---- wire calls
 preset-by-read : (m : Module) (n : ℕ) (lent : List ℕ) → step m (read n lent) .box .service .«wd_timer» ≡ step m (read n lent) .box .shared .«wd_preset»
-unfolding step preset
+unfolding step watchdogPreset
 preset-by-read m n lent = refl
 
 preset-by-write : (m : Module) (n : ℕ) (bs : List ℕ) → step m (write n bs) .box .service .«wd_timer» ≡ step m (write n bs) .box .shared .«wd_preset»
-unfolding step preset
+unfolding step watchdogPreset
 preset-by-write m n bs = refl
 
 -- no write sets Act bit 3
@@ -166,25 +109,14 @@ written-clear (service r) bs m e = errors-clear r (m .service) e
 written-clear (digital k r) bs m e = e
 written-clear (common r) bs m e = e
 written-clear unlisted bs m e = e
-written-clear beyond bs m e = e
 
 cleared-by-write : (m : Module) (n : ℕ) (bs : List ℕ) → step m (write n bs) .box .service .act .«wd_run_out» ≡ false
-unfolding step preset cleared
-cleared-by-write m n bs = go (Questions.writeReply (m .shared) (place n) bs)
+unfolding step watchdogPreset cleared
+cleared-by-write m n bs = go (Questions.writeReply (writeEnable (m .shared)) n (place n) bs)
   where
-    go : (r : Reply) → writtenAs r (place n) bs (cleared m) .box .service .act .«wd_run_out» ≡ false
+    go : (r : Reply) → writeLeaves r (place n) bs (cleared m) .service .act .«wd_run_out» ≡ false
     go (Done q) = written-clear (place n) bs (cleared m) refl
     go (Refused q) = refl
-
--- what a reset makes of every channel
-restored-all : (cs : List Channel) → map (Writes.everyWritten Reset) cs ≡ map Image.restored (map Image.entryOf cs)
-unfolding Writes.everyWritten
-restored-all [] = refl
-restored-all (ch ∷ cs) = ap (λ (xs : List Channel). Image.restored (Image.entryOf ch) ∷ xs) (restored-all cs)
-
-reset : (m : Module) → step m (write 0x03 (0xFF ∷ [])) .box ≡ restarted m
-unfolding step preset cleared place Questions.writeReply Writes.written Writes.sharedWritten Writes.errorsWritten
-reset m = λ i. record { shared = restarted m .shared; service = restarted m .service; channels = restored-all (m .channels) i }
 
 pub wired : Wired
 unfolding Reads.afterRead Writes.written Writes.everyWritten
@@ -193,14 +125,13 @@ wired =
       preset-by-read = preset-by-read;
       preset-by-write = preset-by-write;
       cleared-by-write = cleared-by-write;
-      reset = reset;
       common-error-read = λ m. refl;
       common-error-written = λ m bs. refl;
     }
 
 -- ---- worked values
 pub worked : Worked
-unfolding ofBits toBits ofInt lt le Tick.saveDue Errors.comBytes Errors.anyBit Bytes.bytesOf Bytes.number Bytes.signedBytes Bytes.signedNumber Integers.modulo Integers.signedBits Reals.realBytes Reals.realFrom Reads.flagReg Settings.inA Settings.inB Settings.referenceOf Image.entryBytes Image.started Image.decode Image.entriesFrom Image.entryFrom Image.restored
+unfolding ofBits toBits ofInt lt le Tick.saveDue Tick.tickShared Counts.freeRunTick Errors.comBytes Errors.anyBit Bytes.bytesOf Bytes.number Bytes.signedBytes Bytes.signedNumber Integers.modulo Integers.signedBits Reals.realBytes Reals.realFrom Reads.flagReg Settings.inA Settings.inB Settings.referenceOf Image.entryBytes Image.poweredUp Image.decode Image.entriesFrom Image.entryFrom Image.restored
 worked =
     record {
       at-two = refl;
@@ -209,6 +140,9 @@ worked =
       above-leak = refl;
       before-save = refl;
       save = refl;
+      save-ticks = λ s. refl;
+      next-tick = refl;
+      after-save = refl;
       com-bytes = refl;
       his-word = refl;
       flag-bits = refl;

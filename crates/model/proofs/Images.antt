@@ -10,18 +10,23 @@ pub mod Rules
 pub mod Writes
 pub mod Boxes
 pub mod Steps
-use mathlib.Core.Path.{_≡_, refl, ap, ap₂, _∙_}
+use mathlib.Core.Path.{_≡_, refl, sym, ap, ap₂, subst, _∙_}
+use mathlib.Core.Bool.{false}
 use mathlib.Core.List.{List, [], _∷_, _++_, map}
-use Prim.Native.Nat.{ℕ}
+use Prim.Native.Nat.{ℕ, _≤_}
 use lib.Dec.{T}
-use lib.ListN.{drop}
+use lib.ListN.{length, take, drop}
 use lib.Pow.{areBytes}
+use lib.Seq.{take-at}
+use borrow.Author.Tests.{le-leb}
+use Rattle.model.specs.declared.Module.{Module}
+use Rattle.model.specs.declared.Reply.{Reply}
 use Rattle.model.specs.declared.Reply.the-variants.{Done}
-use Rattle.model.specs.Image.{Entry, Setup, entryOf, setupOf, encode, decode, restored, started}
-use Rattle.model.specs.Questions.{powerUpReply, storeReply}
-use Rattle.model.specs.Calls as Calls
-use Rattle.model.specs.Calls.{Request, run, powerUp}
-use Rattle.model.specs.Images.{Typed, Images}
+use Rattle.model.specs.Image.{Entry, Setup, entryOf, setupOf, encode, decode, restored, poweredUp}
+use Rattle.model.specs.Questions.{numberOf, powerUpQuestions, powerUpReply, storeReply}
+use Rattle.model.specs.Calls.{Answer, plainAnswer, run, powerUp, poweredUpAs, powerUpAnswer, stored, storeAnswer}
+use Rattle.model.specs.Images.{Reached, PowersUpTo, Images}
+use Rattle.model.proofs.Laws.Replies.{asked-done}
 use Rattle.model.proofs.Images.Whole.{SetupHeld, encode-long, encode-again, decode-back, encode-accepted}
 use Rattle.model.proofs.Images.Boxes.{setup-held, power-up-valid}
 use Rattle.model.proofs.Images.Steps.{run-valid}
@@ -37,9 +42,18 @@ restored-entries [] = refl
 restored-entries (e ∷ es) = ap₂ (λ (x : Entry) (xs : List Entry). x ∷ xs) (restored-entry e) (restored-entries es)
 
 -- and the whole setup
-started-setup : (s : Setup) → setupOf (started s) ≡ s
-unfolding started
-started-setup s = λ i. record { config = s .config; preset = s .preset; entries = restored-entries (s .entries) i }
+started-setup : (s : Setup) → setupOf (poweredUp s) ≡ s
+unfolding poweredUp
+started-setup s = λ i. record { module-config = s .module-config; wd-preset = s .wd-preset; entries = restored-entries (s .entries) i }
+
+-- an image whose number is 0 has the reply of what is done
+done : (img : List ℕ) → powerUpAnswer img .number ≡ 0 → powerUpReply img ≡ Done 0
+unfolding powerUpAnswer powerUpReply
+done img e = asked-done (powerUpQuestions img) 0 e
+
+number-done : (img : List ℕ) → powerUpReply img ≡ Done 0 → powerUpAnswer img .number ≡ 0
+unfolding powerUpAnswer
+number-done img e = ap numberOf e
 
 -- an accepted image powers up to the setup that it holds
 accepted-setup : (img : List ℕ) → powerUpReply img ≡ Done 0 → setupOf (powerUp img) ≡ decode img
@@ -47,25 +61,45 @@ unfolding powerUp
 accepted-setup img e = rw e (started-setup (decode img))
 
 -- the setup of a reached box is in its ranges
-reached : (img : List ℕ) → T (areBytes img) → (xs : List Request) → Typed xs → SetupHeld (setupOf (run (powerUp img) xs))
-reached img t xs y = setup-held (run (powerUp img) xs) (run-valid (powerUp img) xs y (power-up-valid img t))
+held : (m : Module) → Reached m → SetupHeld (setupOf m)
+held m r =
+    subst (λ (b : Module). SetupHeld (setupOf b)) (sym (r .reached))
+    (setup-held (run (powerUp (r .image)) (r .calls)) (run-valid (powerUp (r .image)) (r .calls) (r .typed) (power-up-valid (r .image) (r .bytes))))
 
 -- the three parts of the claim
-again : (img : List ℕ) → T (areBytes img) → powerUpReply img ≡ Done 0 → encode (setupOf (powerUp img)) ≡ img
-again img t e = ap encode (accepted-setup img e) ∙ encode-again img t e
+again : (img : List ℕ) → T (areBytes img) → powerUpAnswer img .number ≡ 0 → encode (setupOf (powerUp img)) ≡ img
+again img t e = let d = done img e in ap encode (accepted-setup img d) ∙ encode-again img t d
 
-stored : (img : List ℕ) → T (areBytes img) → (xs : List Request) → Typed xs → powerUpReply (encode (setupOf (run (powerUp img) xs))) ≡ Done 0
-stored img t xs y = encode-accepted (setupOf (run (powerUp img) xs)) (reached img t xs y)
+written : (m : Module) → Reached m → (lent : List ℕ) → 717 ≤ length lent →
+    storeAnswer m lent ≡ record { number = 0; length = 717; buffer = encode (setupOf m) ++ drop 717 lent; data-error = false; general-error = false }
+unfolding storeAnswer stored storeReply
+written m r lent h =
+    let s = setupOf m in
+    rw (le-leb 717 (length lent) h)
+    (ap (λ (k : ℕ). plainAnswer (Done 717) (encode s ++ drop k lent)) (encode-long s (held m r)))
 
-back : (img : List ℕ) → T (areBytes img) → (xs : List Request) → Typed xs → setupOf (powerUp (encode (setupOf (run (powerUp img) xs)))) ≡ setupOf (run (powerUp img) xs)
-back img t xs y = let s = setupOf (run (powerUp img) xs) in accepted-setup (encode s) (stored img t xs y) ∙ decode-back s (reached img t xs y)
+-- the first 717 bytes of the buffer
+stored-bytes : (m : Module) → Reached m → (lent : List ℕ) → 717 ≤ length lent → take 717 (storeAnswer m lent .buffer) ≡ encode (setupOf m)
+stored-bytes m r lent h =
+    let s = setupOf m in
+    ap (λ (a : Answer). take 717 (a .buffer)) (written m r lent h) ∙ take-at (encode s) (drop 717 lent) 717 (encode-long s (held m r))
 
-written : (img : List ℕ) → T (areBytes img) → (xs : List Request) → Typed xs → (lent : List ℕ) → storeReply lent ≡ Done 717
-    → Calls.stored (run (powerUp img) xs) lent ≡ encode (setupOf (run (powerUp img) xs)) ++ drop 717 lent
-unfolding Calls.stored
-written img t xs y lent e =
-    let s = setupOf (run (powerUp img) xs) in
-    rw e (ap (λ (k : ℕ). encode s ++ drop k lent) (encode-long s (reached img t xs y)))
+back : (m : Module) → Reached m → (lent : List ℕ) → 717 ≤ length lent → PowersUpTo m (take 717 (storeAnswer m lent .buffer))
+back m r lent h =
+    let s = setupOf m in
+    let e = stored-bytes m r lent h in
+    let ok = encode-accepted s (held m r) in
+    record {
+      accepted = ap (λ (l : List ℕ). powerUpAnswer l .number) e ∙ number-done (encode s) ok;
+      kept = ap (λ (l : List ℕ). setupOf (powerUp l)) e ∙ accepted-setup (encode s) ok ∙ decode-back s (held m r);
+    }
+
+-- so such a box powers up again from what it stores
+pub stored-power-up : (m : Module) → Reached m → (lent : List ℕ) → 717 ≤ length lent → powerUp (take 717 (storeAnswer m lent .buffer)) ≡ poweredUp (setupOf m)
+unfolding powerUp
+stored-power-up m r lent h =
+    let s = setupOf m in
+    ap powerUp (stored-bytes m r lent h) ∙ ap (λ (q : Reply). poweredUpAs q (encode s)) (encode-accepted s (held m r)) ∙ ap poweredUp (decode-back s (held m r))
 
 pub images : Images
-images = record { again = again; stored = stored; back = back; written = written }
+images = record { again = again; written = written; back = back }

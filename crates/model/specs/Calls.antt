@@ -1,4 +1,5 @@
--- Document 01, "Calls": what each call answers and leaves, for any box, call and buffer; a list of calls; power-up and storing. Definitions only.
+-- Document 01, Calls 1 to 8, with Questions 16 to 18 and Setup image 4: what each call answers and leaves, for any box, call and buffer; a list of calls;
+-- power-up and storing. Definitions only.
 use mathlib.Core.Bool.{Bool, false}
 use mathlib.Core.List.{List, [], _∷_, _++_}
 use Prim.Native.Nat.{ℕ}
@@ -8,17 +9,17 @@ use Rattle.model.specs.declared.Channel.{Channel}
 use Rattle.model.specs.declared.Module.{Module}
 use Rattle.model.specs.declared.Reply.{Reply}
 use Rattle.model.specs.declared.Reply.the-variants.{Done, Refused}
-use Rattle.model.specs.State.{withServiceRecord, channelAt, putChannel}
+use Rattle.model.specs.State.{wdTimer, wdPreset, writeEnable, serviceOf, withServiceRecord, channelAt, putChannel}
 use Rattle.model.specs.Channel.{takeLevel, takeCurrent}
 use Rattle.model.specs.Errors.{dataError, generalError}
-use Rattle.model.specs.Registers.{Place, place}
+use Rattle.model.specs.Registers.{Place, channelOf, place}
 use Rattle.model.specs.Reads.{bytesRead, afterRead}
 use Rattle.model.specs.Writes.{written}
-use Rattle.model.specs.Tick.{withWatchdog, ticked}
-use Rattle.model.specs.Image.{setupOf, encode, decode, started, zeroSetup}
-use Rattle.model.specs.Questions.{readReply, writeReply, levelReply, currentReply, powerUpReply, storeReply}
+use Rattle.model.specs.Tick.{withRunOut, ticked}
+use Rattle.model.specs.Image.{setupOf, encode, decode, poweredUp, zeroSetup}
+use Rattle.model.specs.Questions.{numberOf, lengthOf, readReply, writeReply, levelReply, currentReply, powerUpReply, storeReply}
 
--- "A call is one of: a wire read, a wire write, a level, a current in amperes, or a tick", with all that it carries
+-- ---- Calls 1: a call of a list, with all that it carries (Two lists 6)
 pub data Request : Type 0 where
   read : ℕ → List ℕ → Request
   write : ℕ → List ℕ → Request
@@ -26,9 +27,29 @@ pub data Request : Type 0 where
   current : ℕ → Float → Request
   tick : Request
 
--- what is answered: number and length by the reply; the lent buffer afterwards; DataError and GeneralError
+-- Two lists 3: whose a call is
+pub data Owner : Type 0 where
+  everyone : Owner
+  channel : ℕ → Owner
+
+-- what a call is: a tick; a wire call that lends a buffer; a wire write of a SWNo and its bytes; or a local call
+pub data Sort : Type 0 where
+  aTick : Sort
+  aRead : Owner → List ℕ → Sort
+  aWrite : ℕ → List ℕ → Sort
+  aLocalCall : Owner → Sort
+
+abbrev pub sortOf : Request → Sort
+sortOf (read n lent) = aRead (channel (channelOf n)) lent
+sortOf (write n bs) = aWrite n bs
+sortOf (level k b) = aLocalCall (channel k)
+sortOf (current k x) = aLocalCall (channel k)
+sortOf tick = aTick
+
+-- ---- Calls 5 and 6: an answer in the paper's numbers. What a call does not answer is 0, empty or FALSE
 pub record Answer : Type 0 where
-  pub reply : Reply
+  pub number : ℕ
+  pub length : ℕ
   pub buffer : List ℕ
   pub data-error : Bool
   pub general-error : Bool
@@ -37,69 +58,92 @@ pub record Stepped : Type 0 where
   pub answer : Answer
   pub box : Module
 
--- the two bits are taken of m
+-- of a wire call; the two bits are taken of m
 abbrev pub wireAnswer : Reply → List ℕ → Module → Answer
-wireAnswer r buf m = record { reply = r; buffer = buf; data-error = dataError m; general-error = generalError m }
+wireAnswer r buf m = record { number = numberOf r; length = lengthOf r; buffer = buf; data-error = dataError m; general-error = generalError m }
 
--- "A sample answers its number alone, a tick 0"
-abbrev pub plainAnswer : Reply → Answer
-plainAnswer r = record { reply = r; buffer = []; data-error = false; general-error = false }
+-- of every other call
+abbrev pub plainAnswer : Reply → List ℕ → Answer
+plainAnswer r buf = record { number = numberOf r; length = lengthOf r; buffer = buf; data-error = false; general-error = false }
 
--- "A wire call, refused or not, first clears Act bit 3 of the service channel"
+-- ---- Calls 4: a wire call
+-- it clears service Act bit 3 first
 unfoldable pub cleared : Module → Module
-cleared m = withServiceRecord (record { «wd_timer» = m .service .«wd_timer»; act = withWatchdog false (m .service .act); his = m .service .his }) m
+cleared m = withServiceRecord (serviceOf (wdTimer (m .service)) (withRunOut false (m .service .act)) (m .service .his)) m
 
--- "then sets WDTimer to WDPreset"
-unfoldable pub preset : Module → Module
-preset m = withServiceRecord (record { «wd_timer» = m .shared .«wd_preset»; act = m .service .act; his = m .service .his }) m
+-- and sets WDTimer to WDPreset last
+unfoldable pub watchdogPreset : Module → Module
+watchdogPreset m = withServiceRecord (serviceOf (wdPreset (m .shared)) (m .service .act) (m .service .his)) m
 
--- "Bytes past an answer are unchanged"
+abbrev pub thenPreset : Stepped → Stepped
+thenPreset s = record { answer = s .answer; box = watchdogPreset (s .box) }
+
+-- Questions 18: the lent buffer with an answer's bytes first
 abbrev pub overwritten : List ℕ → List ℕ → List ℕ
 overwritten bytes lent = bytes ++ drop (length bytes) lent
 
--- m is the box after the clearing. The bits are taken "for a read before its acknowledgement, for a refusal after the clearing"
+-- what a read does to the box m after the clearing: the box that it leaves, and the lent buffer
+abbrev pub readLeaves : Reply → Place → Module → Module
+readLeaves (Done n) p m = afterRead p m
+readLeaves (Refused r) p m = m
+
+abbrev pub readFills : Reply → Place → Module → List ℕ → List ℕ
+readFills (Done n) p m lent = overwritten (bytesRead p m) lent
+readFills (Refused r) p m lent = lent
+
+-- Calls 5: its two bits are those before the acknowledgement
 abbrev pub readAs : Reply → Place → List ℕ → Module → Stepped
-readAs (Done n) p lent m = record { answer = wireAnswer (Done n) (overwritten (bytesRead p m) lent) m; box = afterRead p m }
-readAs (Refused r) p lent m = record { answer = wireAnswer (Refused r) lent m; box = m }
+readAs r p lent m = record { answer = wireAnswer r (readFills r p m lent) m; box = readLeaves r p m }
 
--- "taken after a write"
+-- the same of a write
+abbrev pub writeLeaves : Reply → Place → List ℕ → Module → Module
+writeLeaves (Done n) p bs m = written p bs m
+writeLeaves (Refused r) p bs m = m
+
+-- Calls 5: its two bits are those after its effect
 abbrev pub writtenAs : Reply → Place → List ℕ → Module → Stepped
-writtenAs (Done n) p bs m = record { answer = wireAnswer (Done n) [] (written p bs m); box = written p bs m }
-writtenAs (Refused r) p bs m = record { answer = wireAnswer (Refused r) [] m; box = m }
+writtenAs r p bs m = record { answer = wireAnswer r [] (writeLeaves r p bs m); box = writeLeaves r p bs m }
 
-abbrev pub thenPreset : Stepped → Stepped
-thenPreset s = record { answer = s .answer; box = preset (s .box) }
+-- ---- Calls 2: a sample for channel k, which makes ch of it
+abbrev pub sampleLeaves : Reply → ℕ → Channel → Module → Module
+sampleLeaves (Done n) k ch m = putChannel k ch m
+sampleLeaves (Refused r) k ch m = m
 
--- a sample for channel k, which makes ch of it
 abbrev pub sampledAs : Reply → ℕ → Channel → Module → Stepped
-sampledAs (Done n) k ch m = record { answer = plainAnswer (Done n); box = putChannel k ch m }
-sampledAs (Refused r) k ch m = record { answer = plainAnswer (Refused r); box = m }
+sampledAs r k ch m = record { answer = plainAnswer r []; box = sampleLeaves r k ch m }
 
--- one call on any box
+-- ---- one call on any box
 unfoldable pub step : Module → Request → Stepped
-step m (read n lent) = thenPreset (readAs (readReply (place n) lent) (place n) lent (cleared m))
-step m (write n bs) = thenPreset (writtenAs (writeReply (m .shared) (place n) bs) (place n) bs (cleared m))
+step m (read n lent) = thenPreset (readAs (readReply n (place n) lent) (place n) lent (cleared m))
+step m (write n bs) = thenPreset (writtenAs (writeReply (writeEnable (m .shared)) n (place n) bs) (place n) bs (cleared m))
 step m (level k b) = sampledAs (levelReply k) k (takeLevel b (channelAt m k)) m
 step m (current k x) = sampledAs (currentReply k x) k (takeCurrent (m .shared) x (channelAt m k)) m
-step m tick = record { answer = plainAnswer (Done 0); box = ticked m }
+step m tick = record { answer = plainAnswer (Done 0) []; box = ticked m }
 
--- the demands: "Each call gets the box that the last one left"
+-- demand 3: each call gets the box that the last one left
 unfoldable pub run : Module → List Request → Module
 run m [] = m
 run m (x ∷ xs) = run (step m x .box) xs
 
--- ---- power-up and storing "stand outside lists"
-abbrev pub startedAs : Reply → List ℕ → Module
-startedAs (Done n) img = started (decode img)
-startedAs (Refused r) img = started zeroSetup
+-- ---- Calls 3: power-up and storing
+-- Setup image 2 and Questions 17: the box of an image
+abbrev pub poweredUpAs : Reply → List ℕ → Module
+poweredUpAs (Done n) img = poweredUp (decode img)
+poweredUpAs (Refused r) img = poweredUp zeroSetup
 
 unfoldable pub powerUp : List ℕ → Module
-powerUp img = startedAs (powerUpReply img) img
+powerUp img = poweredUpAs (powerUpReply img) img
 
--- "Storing writes kept values": the lent buffer afterwards
-abbrev pub storedAs : Reply → List ℕ → Module → List ℕ
-storedAs (Done n) lent m = overwritten (encode (setupOf m)) lent
-storedAs (Refused r) lent m = lent
+unfoldable pub powerUpAnswer : List ℕ → Answer
+powerUpAnswer img = plainAnswer (powerUpReply img) []
+
+-- Setup image 4: the lent buffer with the kept values
+abbrev pub storeFills : Reply → List ℕ → Module → List ℕ
+storeFills (Done n) lent m = overwritten (encode (setupOf m)) lent
+storeFills (Refused r) lent m = lent
 
 unfoldable pub stored : Module → List ℕ → List ℕ
-stored m lent = storedAs (storeReply lent) lent m
+stored m lent = storeFills (storeReply lent) lent m
+
+unfoldable pub storeAnswer : Module → List ℕ → Answer
+storeAnswer m lent = plainAnswer (storeReply lent) (stored m lent)

@@ -1,5 +1,5 @@
--- An example that meets every hypothesis of `TwoLists`, so that the claim is not an empty one: c is channel 1, the image names channel 2 as its Ref_A, an accepted write of
--- ChConfig names channel 4 as its Ref_B too, and channel 3 is a stranger. proofs/Example.antt computes each fact.
+-- An example that meets every hypothesis of `TwoLists`, so that the claim is not an empty one: c is channel 1, the image names channel 2 as its Ref_A,
+-- an accepted write of ChConfig names channel 4 as its Ref_B too, and channel 3 is a stranger. proofs/Example.antt computes each fact.
 use mathlib.Core.Path.{_≡_}
 use mathlib.Core.Bool.{true, false}
 use mathlib.Core.List.{List, [], _∷_, _++_}
@@ -9,21 +9,19 @@ use lib.ListN.{replicate}
 use lib.Ieee.{binary32, ofInt}
 use Rattle.counts.specs.Counts.{timer}
 use Rattle.model.specs.declared.Module.{Module}
-use Rattle.model.specs.declared.Reply.the-variants.{Done}
-use Rattle.model.specs.State.{channelAt, inFlag}
+use Rattle.model.specs.State.{config, channelAt, inFlag}
 use Rattle.model.specs.Settings.{output}
 use Rattle.model.specs.Image.{Entry, Setup, entrySize, entryFrom, encode}
-use Rattle.model.specs.Questions.{powerUpReply}
-use Rattle.model.specs.Calls.{Request, read, write, level, current, tick, run, powerUp}
+use Rattle.model.specs.Calls.{Request, read, write, level, current, tick, run, powerUp, powerUpAnswer}
 use Rattle.model.specs.TwoLists.{allNamed, struck, marks}
 
 -- settings of a channel: an output with this Ref_A and a MaxCurrent of 1, all else zero
 abbrev pub outputWith : ℕ → Entry
 outputWith a =
     record {
-      config = record { enablebit = 0; functions = 0x10; «ref_a» = a; «ref_b» = 0 };
-      feedback = timer (pos 0);
-      out = timer (pos 0);
+      config = config 0 0x10 a 0;
+      fb-preset = timer (pos 0);
+      out-preset = timer (pos 0);
       min = ofInt binary32 (pos 0);
       max = ofInt binary32 (pos 1);
       reals = replicate 8 0;
@@ -37,8 +35,8 @@ outputWith a =
 abbrev pub setup : Setup
 setup =
     record {
-      config = record { enablebit = 0; functions = 0; «ref_a» = 0; «ref_b» = 0 };
-      preset = timer (pos 256);
+      module-config = config 0 0 0 0;
+      wd-preset = timer (pos 256);
       entries = outputWith 2 ∷ entryFrom (replicate entrySize 0) ∷ outputWith 0 ∷ replicate 13 (entryFrom (replicate entrySize 0));
     }
 
@@ -72,7 +70,7 @@ start = powerUp image
 
 pub record Example : Type 0 where
   -- the hypotheses
-  pub accepts : powerUpReply image ≡ Done 0
+  pub accepts : powerUpAnswer image .number ≡ 0
   pub strikes : struck 1 (allNamed 1 start first second) first ≡ struck 1 (allNamed 1 start first second) second
   pub agrees : marks false first ≡ marks false second
   -- and what makes it one that says something

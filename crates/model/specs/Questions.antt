@@ -1,4 +1,4 @@
--- Document 01, "Questions in order": each question, the first whose answer is no, and the number and values of every answer. Definitions only.
+-- Document 01, Questions 1 to 15: each question, the first whose answer is no, and the number and values of every answer. Definitions only.
 use mathlib.Core.Bool.{Bool, true, false, not, cond, _||_}
 use mathlib.Core.List.{List, [], _∷_}
 use Prim.Native.Nat.{ℕ}
@@ -7,18 +7,19 @@ use lib.ListN.{length}
 use lib.Ieee.{Float}
 use lib.Ieee.Scale.{finite}
 use Rattle.model.specs.declared.Access.{Access}
-use Rattle.model.specs.declared.Shared.{Shared}
 use Rattle.model.specs.declared.Refusal.{Refusal}
 use Rattle.model.specs.declared.Reply.{Reply}
 use Rattle.model.specs.declared.Access.the-variants.{ReadOnly, Writable, Protected}
-use Rattle.model.specs.declared.Refusal.the-variants.{Beyond, Unlisted, NotWritable, WrongLength, BufferTooShort, NotEnabled, NotAllowed, NoChannel, NotFinite, ImageLength, ImageCounts, ImageSum, ImageValues, NoRoom}
+use Rattle.model.specs.declared.Refusal.the-variants.{Beyond, Unlisted, NotWritable, WrongLength, BufferTooShort, NotEnabled, NotAllowed}
+use Rattle.model.specs.declared.Refusal.the-variants.{NoChannel, NotFinite, ImageLength, ImageCounts, ImageSum, ImageValues, NoRoom}
 use Rattle.model.specs.declared.Reply.the-variants.{Done, Refused}
-use Rattle.model.specs.Settings as Settings
-use Rattle.model.specs.Registers.{Place, service, digital, common, unlisted, beyond, access, size}
+use Rattle.model.specs.Settings.{isDigital}
+use Rattle.model.specs.Registers.{Place, service, digital, common, unlisted, access, size, highestSWNo}
 use Rattle.model.specs.Writes.{allowed}
 use Rattle.model.specs.Image.{sizeRight, countsRight, sumRight, valuesAllowed, imageSize}
 
 -- ---- the number and the length of every answer
+-- the question that each refusal stands for
 abbrev pub refusalNumber : Refusal → ℕ
 refusalNumber Beyond = 1
 refusalNumber Unlisted = 2
@@ -35,15 +36,20 @@ refusalNumber ImageSum = 12
 refusalNumber ImageValues = 13
 refusalNumber NoRoom = 14
 
--- "a number (0 = done)"
+-- Calls 5: 0 where the call is done
 abbrev pub numberOf : Reply → ℕ
 numberOf (Done n) = 0
 numberOf (Refused r) = refusalNumber r
 
--- "a length (0 for a write or a refusal)"
+-- Calls 5 and 8: 0 where it is refused
 abbrev pub lengthOf : Reply → ℕ
 lengthOf (Done n) = n
 lengthOf (Refused r) = 0
+
+-- whether a call is done
+abbrev pub accepted : Reply → Bool
+accepted (Done n) = true
+accepted (Refused r) = false
 
 -- a question: whether its answer is yes, and the refusal where it is no
 pub record Question : Type 0 where
@@ -59,22 +65,15 @@ abbrev pub asked : List Question → Reply → Reply
 asked [] done = done
 asked (q ∷ qs) done = cond (q .yes) (asked qs done) (Refused (q .refusal))
 
--- ---- wire calls
--- 1. "SWNo at most $11F?"
-abbrev pub question1 : Place → Bool
-question1 (service r) = true
-question1 (digital k r) = true
-question1 (common r) = true
-question1 unlisted = true
-question1 beyond = false
+-- ---- wire calls, on the SWNo and the place that it names
+abbrev pub question1 : ℕ → Bool
+question1 n = leb n highestSWNo
 
--- 2. "Register listed?"
 abbrev pub question2 : Place → Bool
 question2 (service r) = true
 question2 (digital k r) = true
 question2 (common r) = true
 question2 unlisted = false
-question2 beyond = false
 
 abbrev pub isWritable : Access → Bool
 isWritable ReadOnly = false
@@ -86,46 +85,40 @@ isProtected ReadOnly = false
 isProtected Writable = false
 isProtected Protected = true
 
--- 3. "On a write, writable?"
 abbrev pub question3 : Place → Bool
 question3 p = isWritable (access p)
 
--- 4. "On a write, exact length?"
 abbrev pub question4 : Place → List ℕ → Bool
 question4 p bs = eqb (length bs) (size p)
 
--- 5. "On a read, buffer long enough?"
 abbrev pub question5 : Place → List ℕ → Bool
 question5 p lent = leb (size p) (length lent)
 
--- 6. "On a write of a protected register, WriteEnable TRUE?"
-abbrev pub question6 : Shared → Place → Bool
-question6 s p = not (isProtected (access p)) || s .«write_enable»
+-- of WriteEnable
+abbrev pub question6 : Bool → Place → Bool
+question6 enable p = not (isProtected (access p)) || enable
 
--- 7. "On a write, value allowed?"
 abbrev pub question7 : Place → List ℕ → Bool
 question7 p bs = allowed p bs
 
-abbrev pub readQuestions : Place → List ℕ → List Question
-readQuestions p lent = (question1 p else Beyond) ∷ (question2 p else Unlisted) ∷ (question5 p lent else BufferTooShort) ∷ []
+abbrev pub readQuestions : ℕ → Place → List ℕ → List Question
+readQuestions n p lent = (question1 n else Beyond) ∷ (question2 p else Unlisted) ∷ (question5 p lent else BufferTooShort) ∷ []
 
-unfoldable pub readReply : Place → List ℕ → Reply
-readReply p lent = asked (readQuestions p lent) (Done (size p))
+unfoldable pub readReply : ℕ → Place → List ℕ → Reply
+readReply n p lent = asked (readQuestions n p lent) (Done (size p))
 
-abbrev pub writeQuestions : Shared → Place → List ℕ → List Question
-writeQuestions s p bs =
-    (question1 p else Beyond) ∷ (question2 p else Unlisted) ∷ (question3 p else NotWritable) ∷ (question4 p bs else WrongLength)
-    ∷ (question6 s p else NotEnabled) ∷ (question7 p bs else NotAllowed) ∷ []
+abbrev pub writeQuestions : Bool → ℕ → Place → List ℕ → List Question
+writeQuestions enable n p bs =
+    (question1 n else Beyond) ∷ (question2 p else Unlisted) ∷ (question3 p else NotWritable) ∷ (question4 p bs else WrongLength)
+    ∷ (question6 enable p else NotEnabled) ∷ (question7 p bs else NotAllowed) ∷ []
 
-unfoldable pub writeReply : Shared → Place → List ℕ → Reply
-writeReply s p bs = asked (writeQuestions s p bs) (Done 0)
+unfoldable pub writeReply : Bool → ℕ → Place → List ℕ → Reply
+writeReply enable n p bs = asked (writeQuestions enable n p bs) (Done 0)
 
 -- ---- samples
--- 8. "channel 1 to 16?"
 abbrev pub question8 : ℕ → Bool
-question8 k = Settings.digital k
+question8 k = isDigital k
 
--- 9. "Current finite?"
 abbrev pub question9 : Float → Bool
 question9 x = finite x
 
@@ -142,19 +135,19 @@ unfoldable pub currentReply : ℕ → Float → Reply
 currentReply k x = asked (currentQuestions k x) (Done 0)
 
 -- ---- power-up, 10 to 13, and storing, 14
--- 10. "717 bytes?" 11. "Counts right?" 12. "Sum right?" 13. "Values allowed?"
 abbrev pub powerUpQuestions : List ℕ → List Question
-powerUpQuestions img = (sizeRight img else ImageLength) ∷ (countsRight img else ImageCounts) ∷ (sumRight img else ImageSum) ∷ (valuesAllowed img else ImageValues) ∷ []
+powerUpQuestions img =
+    (sizeRight img else ImageLength) ∷ (countsRight img else ImageCounts) ∷ (sumRight img else ImageSum) ∷ (valuesAllowed img else ImageValues) ∷ []
 
 unfoldable pub powerUpReply : List ℕ → Reply
 powerUpReply img = asked (powerUpQuestions img) (Done 0)
 
--- 14. "buffer at least 717?", and "Storing answers its number and the length 717"
 abbrev pub question14 : List ℕ → Bool
 question14 lent = leb imageSize (length lent)
 
 abbrev pub storeQuestions : List ℕ → List Question
 storeQuestions lent = (question14 lent else NoRoom) ∷ []
 
+-- Questions 15: the length of what is stored
 unfoldable pub storeReply : List ℕ → Reply
 storeReply lent = asked (storeQuestions lent) (Done imageSize)

@@ -1,4 +1,4 @@
--- Document 01, "Registers": the bytes that each register gives when it is read, and what reading leaves. Definitions only.
+-- Document 01, Registers: the bytes that each register gives when it is read, and what reading leaves. Definitions only.
 use mathlib.Core.Bool.{Bool, false}
 use mathlib.Core.List.{List, [], _∷_, _++_, map}
 use Prim.Native.Nat.{ℕ}
@@ -9,6 +9,7 @@ use Rattle.counts.specs.Counts.{timerUnits, operatingUnits}
 use Rattle.numbers.specs.Reals.{realOf, realBytes}
 use Rattle.model.specs.declared.Config.{Config}
 use Rattle.model.specs.declared.Channel.{Channel}
+use Rattle.model.specs.declared.Service.{Service}
 use Rattle.model.specs.declared.Module.{Module}
 use Rattle.model.specs.declared.ServiceRegister.{ServiceRegister}
 use Rattle.model.specs.declared.DigitalRegister.{DigitalRegister}
@@ -16,35 +17,38 @@ use Rattle.model.specs.declared.CommonRegister.{CommonRegister}
 use Rattle.model.specs.declared.ServiceRegister.the-variants.{Highest, Reset, FreeRunTimer, WDTimer, ModuleConfig, WDPreset, WriteEnable, CommonError}
 use Rattle.model.specs.declared.DigitalRegister.the-variants.{FlagReg, OutTimer, Counter, OutCurrent, OperatingTime, UserBytes, FBTimer, FBPreset, OutPreset, ChConfig, MinCurrent, MaxCurrent, UserReals, Maintenance, ChError}
 use Rattle.model.specs.declared.CommonRegister.the-variants.{OutFlags, InFlags, IOChError, ChError as CommonChError}
-use Rattle.model.specs.State.{outFlag, inFlag, control, fbStatus, outTimer, fbTimer, outPreset, fbPreset, withServiceRecord, channelAt, putChannel}
+use Rattle.model.specs.State.{outFlag, inFlag, control, fbStatus, outTimer, fbTimer, outPreset, fbPreset}
+use Rattle.model.specs.State.{freeRunTimer, moduleConfig, wdPreset, writeEnable, wdTimer, withServiceRecord, channelAt, putChannel}
 use Rattle.model.specs.Settings.{inA, inB}
 use Rattle.model.specs.Channel.{acknowledged}
 use Rattle.model.specs.Errors.{bitValue, byteOf, wordOf, any, errorByte, hasHis, hasAct, chError, commonErrorBytes, serviceAcknowledged}
-use Rattle.model.specs.Registers.{Place, service, digital, common, unlisted, beyond}
+use Rattle.model.specs.Registers.{Place, service, digital, common, unlisted, highestSWNo}
 use Rattle.model.specs.Tick.{levels}
 
+-- Registers 3: a count of 1/256 s as a Real
 abbrev pub timerBytes : TimerCount → List ℕ
 timerBytes t = realBytes (realOf timerUnits (t .0))
 
+-- Service 9 and Digital 9
 abbrev pub configBytes : Config → List ℕ
 configBytes g = g .enablebit ∷ g .functions ∷ g .«ref_a» ∷ g .«ref_b» ∷ []
 
--- "FlagReg bits: 7 OutFlag, 6 InFlag, 5 InA, 4 InB, 3 Control, 2 FBStatus, 1 Act not 0, 0 zero"
+-- A channel 1: FlagReg, the highest bit first
 unfoldable pub flagReg : List Bool → Channel → ℕ
 flagReg levels ch = byteOf (outFlag ch ∷ inFlag ch ∷ inA levels ch ∷ inB levels ch ∷ control ch ∷ fbStatus ch ∷ hasAct ch ∷ false ∷ [])
 
--- "2 bytes, bit k−1 for channel k"
+-- Common $110 to $112: a word with a bit for each channel
 abbrev pub channelWord : (Channel → Bool) → List Channel → List ℕ
 channelWord p cs = bytesOf 2 (wordOf (map p cs))
 
 unfoldable pub serviceBytes : ServiceRegister → Module → List ℕ
-serviceBytes Highest m = bytesOf 2 0x011F
+serviceBytes Highest m = bytesOf 2 highestSWNo
 serviceBytes Reset m = 0 ∷ []
-serviceBytes FreeRunTimer m = signedBytes 4 (m .shared .«free_run_timer» .0)
-serviceBytes WDTimer m = timerBytes (m .service .«wd_timer»)
-serviceBytes ModuleConfig m = configBytes (m .shared .«module_config»)
-serviceBytes WDPreset m = timerBytes (m .shared .«wd_preset»)
-serviceBytes WriteEnable m = bitValue (m .shared .«write_enable») ∷ []
+serviceBytes FreeRunTimer m = signedBytes 4 (freeRunTimer (m .shared) .0)
+serviceBytes WDTimer m = timerBytes (wdTimer (m .service))
+serviceBytes ModuleConfig m = configBytes (moduleConfig (m .shared))
+serviceBytes WDPreset m = timerBytes (wdPreset (m .shared))
+serviceBytes WriteEnable m = bitValue (writeEnable (m .shared)) ∷ []
 serviceBytes CommonError m = commonErrorBytes m
 
 unfoldable pub digitalBytes : DigitalRegister → List Bool → Channel → List ℕ
@@ -75,18 +79,17 @@ bytesRead (service r) m = serviceBytes r m
 bytesRead (digital k r) m = digitalBytes r (levels m) (channelAt m k)
 bytesRead (common r) m = commonBytes r (m .channels)
 bytesRead unlisted m = []
-bytesRead beyond m = []
 
--- "Reading a digital ChError or CommonError gives the old bytes, then that His := its Act"
-abbrev pub serviceRead : ServiceRegister → Module → Module
-serviceRead Highest m = m
-serviceRead Reset m = m
-serviceRead FreeRunTimer m = m
-serviceRead WDTimer m = m
-serviceRead ModuleConfig m = m
-serviceRead WDPreset m = m
-serviceRead WriteEnable m = m
-serviceRead CommonError m = withServiceRecord (serviceAcknowledged (m .service)) m
+-- Registers 7: CommonError acknowledges the service channel's own errors, and ChError those of its channel; no other read changes anything
+abbrev pub serviceRead : ServiceRegister → Service → Service
+serviceRead Highest v = v
+serviceRead Reset v = v
+serviceRead FreeRunTimer v = v
+serviceRead WDTimer v = v
+serviceRead ModuleConfig v = v
+serviceRead WDPreset v = v
+serviceRead WriteEnable v = v
+serviceRead CommonError v = serviceAcknowledged v
 
 abbrev pub digitalRead : DigitalRegister → Channel → Channel
 digitalRead FlagReg ch = ch
@@ -106,8 +109,7 @@ digitalRead Maintenance ch = ch
 digitalRead ChError ch = acknowledged ch
 
 unfoldable pub afterRead : Place → Module → Module
-afterRead (service r) m = serviceRead r m
+afterRead (service r) m = withServiceRecord (serviceRead r (m .service)) m
 afterRead (digital k r) m = putChannel k (digitalRead r (channelAt m k)) m
 afterRead (common r) m = m
 afterRead unlisted m = m
-afterRead beyond m = m

@@ -1,68 +1,122 @@
--- Demand 1: "Refused first", "Each gets its own number, leaves the lent buffer untouched and leaves the box as document 01 fixes." The proof is in proofs/Refusals.antt.
+-- Demand 1: a number is given exactly where its question is the first whose answer is no, 0 exactly where all are yes, and a refused call leaves the lent buffer
+-- and the box as document 01 says (Questions 16 and 17). The proof is in proofs/Refusals.antt.
 use mathlib.Core.Path.{_≡_}
-use mathlib.Core.Bool.{true, false}
+use mathlib.Core.Bool.{Bool, true, false}
 use mathlib.Core.List.{List, [], _∷_, _++_}
-use Prim.Native.Nat.{ℕ}
+use Prim.Native.Nat.{ℕ, suc}
+use lib.IntN.{pos}
+use lib.ListN.{length, drop, replicate, set}
+use lib.Ieee.{Float, binary32, ofBits, ofInt}
+use Rattle.counts.specs.Counts.{timer}
 use Rattle.model.specs.declared.Module.{Module}
-use Rattle.model.specs.declared.Refusal.{Refusal}
-use Rattle.model.specs.declared.Reply.the-variants.{Done, Refused}
-use Rattle.model.specs.Image.{started, zeroSetup}
-use Rattle.model.specs.Questions.{Question, asked, refusalNumber, numberOf, powerUpReply, storeReply}
-use Rattle.model.specs.Calls.{Request, read, write, level, current, tick, Stepped, step, wireAnswer, plainAnswer, cleared, preset, powerUp, stored}
+use Rattle.model.specs.State.{config, writeEnable}
+use Rattle.model.specs.Errors.{dataError, generalError}
+use Rattle.model.specs.Registers.{place}
+use Rattle.model.specs.Image.{Setup, sizeRight, countsRight, sumRight, valuesAllowed, encode, poweredUp, zeroSetup}
+use Rattle.model.specs.Questions.{question1, question2, question3, question4, question5, question6, question7, question8, question9, question14}
+use Rattle.model.specs.Calls.{Request, read, write, level, current, Sort, aTick, aRead, aWrite, aLocalCall, sortOf, Stepped, step}
+use Rattle.model.specs.Calls.{cleared, watchdogPreset, powerUp, powerUpAnswer, stored, storeAnswer}
 
--- what a refused call leaves and answers: a wire call only its clearing and its preset, with the bits as they stand after the clearing; a sample nothing
-abbrev pub refusedAs : Module → Request → Refusal → Stepped
-refusedAs m (read n lent) r = record { answer = wireAnswer (Refused r) lent (cleared m); box = preset (cleared m) }
-refusedAs m (write n bs) r = record { answer = wireAnswer (Refused r) [] (cleared m); box = preset (cleared m) }
-refusedAs m (level k b) r = record { answer = plainAnswer (Refused r); box = m }
-refusedAs m (current k x) r = record { answer = plainAnswer (Refused r); box = m }
-refusedAs m tick r = record { answer = plainAnswer (Refused r); box = m }
+-- ---- which number is given
+-- a question by its number, and whether its answer is yes
+pub record Asked : Type 0 where
+  pub number : ℕ
+  pub yes : Bool
 
--- every question of a list is answered yes
-abbrev pub AllYes : List Question → Type 0
+infix 20 _asks_
+abbrev pub _asks_ : ℕ → Bool → Asked
+n asks b = record { number = n; yes = b }
+
+abbrev pub AllYes : List Asked → Type 0
 AllYes [] = Unit {0}
 AllYes (q ∷ qs) = (q .yes ≡ true) × AllYes qs
 
--- the refusal of the first question that is answered no
-pub record FirstNo (qs : List Question) (r : Refusal) : Type 0 where
-  pub before : List Question
-  pub question : Question
-  pub after : List Question
+-- question n is the first whose answer is no
+pub record FirstNo (qs : List Asked) (n : ℕ) : Type 0 where
+  pub before : List Asked
+  pub question : Asked
+  pub after : List Asked
   pub order : qs ≡ before ++ (question ∷ after)
   pub yes : AllYes before
   pub no : question .yes ≡ false
-  pub is : question .refusal ≡ r
+  pub is : question .number ≡ n
+
+-- the number that questions decide
+pub record Decides (qs : List Asked) (number : ℕ) : Type 0 where
+  pub refused : (n : ℕ) → FirstNo qs n → number ≡ n
+  pub only : (n : ℕ) → number ≡ suc n → FirstNo qs (suc n)
+  pub done : AllYes qs → number ≡ 0
+  pub all : number ≡ 0 → AllYes qs
+
+-- each kind of call with its questions, by their numbers and in the paper's order
+pub record Decided : Type 0 where
+  pub reads : (m : Module) (n : ℕ) (lent : List ℕ) →
+      Decides ((1 asks question1 n) ∷ (2 asks question2 (place n)) ∷ (5 asks question5 (place n) lent) ∷ []) (step m (read n lent) .answer .number)
+  pub writes : (m : Module) (n : ℕ) (bs : List ℕ) →
+      Decides
+      ((1 asks question1 n) ∷ (2 asks question2 (place n)) ∷ (3 asks question3 (place n)) ∷ (4 asks question4 (place n) bs)
+      ∷ (6 asks question6 (writeEnable (m .shared)) (place n)) ∷ (7 asks question7 (place n) bs) ∷ [])
+      (step m (write n bs) .answer .number)
+  pub levels : (m : Module) (k : ℕ) (b : Bool) → Decides ((8 asks question8 k) ∷ []) (step m (level k b) .answer .number)
+  pub currents : (m : Module) (k : ℕ) (x : Float) → Decides ((8 asks question8 k) ∷ (9 asks question9 x) ∷ []) (step m (current k x) .answer .number)
+  pub power-ups : (img : List ℕ) →
+      Decides ((10 asks sizeRight img) ∷ (11 asks countsRight img) ∷ (12 asks sumRight img) ∷ (13 asks valuesAllowed img) ∷ []) (powerUpAnswer img .number)
+  pub stores : (m : Module) (lent : List ℕ) → Decides ((14 asks question14 lent) ∷ []) (storeAnswer m lent .number)
+
+-- ---- what a refused call leaves and answers beside its number
+-- a wire call only its clearing and its preset, with the two bits as they stand after the clearing; any other call nothing
+abbrev pub wireRefused : Module → ℕ → List ℕ → Stepped
+wireRefused m n lent =
+    let c = cleared m in
+    record { answer = record { number = n; length = 0; buffer = lent; data-error = dataError c; general-error = generalError c }; box = watchdogPreset c }
+
+abbrev pub plainlyRefused : Module → ℕ → Stepped
+plainlyRefused m n = record { answer = record { number = n; length = 0; buffer = []; data-error = false; general-error = false }; box = m }
+
+abbrev pub refusedBy : Sort → Module → ℕ → Stepped
+refusedBy aTick m n = plainlyRefused m n
+refusedBy (aRead o lent) m n = wireRefused m n lent
+refusedBy (aWrite k bs) m n = wireRefused m n []
+refusedBy (aLocalCall o) m n = plainlyRefused m n
 
 pub record Refusals : Type 0 where
-  -- a refused call changes no buffer and no box, save the wire call's clearing and preset
-  pub unchanged : (m : Module) (x : Request) (r : Refusal) → step m x .answer .reply ≡ Refused r → step m x ≡ refusedAs m x r
-  -- a refusal is given exactly where its question is the first whose answer is no
-  pub first : (qs : List Question) (n : ℕ) (r : Refusal) → asked qs (Done n) ≡ Refused r → FirstNo qs r
-  pub only : (qs : List Question) (n : ℕ) (r : Refusal) → FirstNo qs r → asked qs (Done n) ≡ Refused r
-  pub accepted : (qs : List Question) (n : ℕ) → AllYes qs → asked qs (Done n) ≡ Done n
-  -- each refusal has its own number
-  pub distinct : (r r′ : Refusal) → refusalNumber r ≡ refusalNumber r′ → r ≡ r′
-  -- a refused power-up gives the box of all-zero settings, and a refused storing leaves the buffer
-  pub start : (img : List ℕ) (r : Refusal) → powerUpReply img ≡ Refused r → powerUp img ≡ started zeroSetup
-  pub store : (m : Module) (lent : List ℕ) (r : Refusal) → storeReply lent ≡ Refused r → stored m lent ≡ lent
+  pub decided : Decided
+  pub unchanged : (m : Module) (x : Request) (n : ℕ) → step m x .answer .number ≡ suc n → step m x ≡ refusedBy (sortOf x) m (suc n)
+  -- a refused power-up gives the box of all-zero settings; a refused storing answers no length and leaves the buffer
+  pub start : (img : List ℕ) (n : ℕ) → powerUpAnswer img .number ≡ suc n → powerUp img ≡ poweredUp zeroSetup
+  pub store : (m : Module) (lent : List ℕ) (n : ℕ) → storeAnswer m lent .number ≡ suc n →
+      storeAnswer m lent ≡ record { number = suc n; length = 0; buffer = lent; data-error = false; general-error = false }
 
--- the number of a write to, and of a read from, a box; and a box just powered up, on which WriteEnable is FALSE
+-- ---- an instance of every number, most of them where a later question is answered no too
 abbrev pub writes : Module → ℕ → List ℕ → ℕ
-writes m n bs = numberOf (step m (write n bs) .answer .reply)
+writes m n bs = step m (write n bs) .answer .number
 
 abbrev pub reads : Module → ℕ → List ℕ → ℕ
-reads m n lent = numberOf (step m (read n lent) .answer .reply)
+reads m n lent = step m (read n lent) .answer .number
 
+-- a box just powered up, on which WriteEnable is FALSE; and with WriteEnable
 abbrev pub enabled : Module → Module
 enabled m = step m (write 0x0D (1 ∷ [])) .box
 
--- where two questions are answered no, the earlier one's number is given
+-- images: one that is accepted, and one whose ModuleConfig has other Functions
+abbrev pub imageWith : ℕ → List ℕ
+imageWith functions = encode (record { module-config = config 0 functions 0 0; wd-preset = timer (pos 0); entries = zeroSetup .entries })
+
 pub record InOrder : Type 0 where
-  pub beyond : (m : Module) → writes m 0x120 [] ≡ 1
-  pub unlisted : (m : Module) → writes m 0x1E [] ≡ 2
-  pub read-only : (m : Module) → writes m 0x1F [] ≡ 3
-  pub wrong-length : writes (started zeroSetup) 0x19 [] ≡ 4
-  pub too-short : (m : Module) → reads m 0x1F (0 ∷ 0 ∷ 0 ∷ []) ≡ 5
-  pub protected : writes (started zeroSetup) 0x19 (0 ∷ 0x77 ∷ 0 ∷ 0 ∷ []) ≡ 6
-  pub not-allowed : writes (enabled (started zeroSetup)) 0x19 (0 ∷ 0x77 ∷ 0 ∷ 0 ∷ []) ≡ 7
-  pub allowed : writes (enabled (started zeroSetup)) 0x19 (0 ∷ 0x50 ∷ 16 ∷ 16 ∷ []) ≡ 0
+  pub number1 : (m : Module) → writes m 0x120 [] ≡ 1
+  pub number2 : (m : Module) → writes m 0x1E [] ≡ 2
+  pub number3 : (m : Module) → writes m 0x1F [] ≡ 3
+  pub number4 : writes (poweredUp zeroSetup) 0x19 [] ≡ 4
+  pub number5 : (m : Module) → reads m 0x1F (0 ∷ 0 ∷ 0 ∷ []) ≡ 5
+  pub number6 : writes (poweredUp zeroSetup) 0x19 (0 ∷ 0x77 ∷ 0 ∷ 0 ∷ []) ≡ 6
+  pub number7 : writes (enabled (poweredUp zeroSetup)) 0x19 (0 ∷ 0x77 ∷ 0 ∷ 0 ∷ []) ≡ 7
+  pub number8 : (m : Module) → step m (level 17 true) .answer .number ≡ 8
+  pub number8-first : (m : Module) → step m (current 0 (ofBits binary32 0x7F80_0000)) .answer .number ≡ 8
+  pub number9 : (m : Module) → step m (current 16 (ofBits binary32 0x7F80_0000)) .answer .number ≡ 9
+  pub number10 : powerUpAnswer (replicate 716 0) .number ≡ 10
+  pub number11 : powerUpAnswer (set (imageWith 0x10) 0 2) .number ≡ 11
+  pub number12 : powerUpAnswer (set (imageWith 0x10) 2 0x11) .number ≡ 12
+  pub number13 : powerUpAnswer (imageWith 0x11) .number ≡ 13
+  pub number14 : (m : Module) → storeAnswer m (replicate 716 0) .number ≡ 14
+  pub done : writes (enabled (poweredUp zeroSetup)) 0x19 (0 ∷ 0x50 ∷ 16 ∷ 16 ∷ []) ≡ 0
+  pub done-image : powerUpAnswer (imageWith 0x10) .number ≡ 0

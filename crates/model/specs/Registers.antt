@@ -1,8 +1,8 @@
--- Document 01, "Registers": the table. Definitions only.
+-- Document 01, Registers 1 and 2, with its lists of registers: the table. Definitions only.
 use mathlib.Core.Bool.{cond}
 use mathlib.Core.List.{List, [], _∷_}
 use Prim.Native.Nat.{ℕ, _/_, _%_}
-use lib.Dec.{eqb, ltb}
+use lib.Dec.{eqb}
 use Rattle.model.specs.declared.Access.{Access}
 use Rattle.model.specs.declared.ServiceRegister.{ServiceRegister}
 use Rattle.model.specs.declared.DigitalRegister.{DigitalRegister}
@@ -11,8 +11,9 @@ use Rattle.model.specs.declared.Access.the-variants.{ReadOnly, Writable,
 use Rattle.model.specs.declared.ServiceRegister.the-variants.{Highest, Reset, FreeRunTimer, WDTimer, ModuleConfig, WDPreset, WriteEnable, CommonError}
 use Rattle.model.specs.declared.DigitalRegister.the-variants.{FlagReg, OutTimer, Counter, OutCurrent, OperatingTime, UserBytes, FBTimer, FBPreset, OutPreset, ChConfig, MinCurrent, MaxCurrent, UserReals, Maintenance, ChError}
 use Rattle.model.specs.declared.CommonRegister.the-variants.{OutFlags, InFlags, IOChError, ChError as CommonChError}
+use Rattle.model.specs.Settings.{isDigital}
 
--- a row of the table: the register's number in its channel, "R read only, P protected, W writable", and its size in bytes
+-- a row of the table: the register's number in its channel, its access (Registers 2) and its size in bytes
 pub record Row : Type 0 where
   pub number : ℕ
   pub access : Access
@@ -64,45 +65,48 @@ abbrev pub serviceRegisters : List ServiceRegister
 serviceRegisters = Highest ∷ Reset ∷ FreeRunTimer ∷ WDTimer ∷ ModuleConfig ∷ WDPreset ∷ WriteEnable ∷ CommonError ∷ []
 
 abbrev pub digitalRegisters : List DigitalRegister
-digitalRegisters = FlagReg ∷ OutTimer ∷ Counter ∷ OutCurrent ∷ OperatingTime ∷ UserBytes ∷ FBTimer ∷ FBPreset ∷ OutPreset ∷ ChConfig ∷ MinCurrent ∷ MaxCurrent ∷ UserReals ∷ Maintenance ∷ ChError ∷ []
+digitalRegisters =
+    FlagReg ∷ OutTimer ∷ Counter ∷ OutCurrent ∷ OperatingTime ∷ UserBytes ∷ FBTimer ∷ FBPreset ∷ OutPreset ∷ ChConfig ∷ MinCurrent ∷ MaxCurrent
+    ∷ UserReals ∷ Maintenance ∷ ChError ∷ []
 
 abbrev pub commonRegisters : List CommonRegister
 commonRegisters = OutFlags ∷ InFlags ∷ IOChError ∷ CommonChError ∷ []
 
--- what a SWNo names: a register of the service channel, of a digital channel or of the common one; a number that the channel does not list; or a SWNo above $11F
+-- what a SWNo names: a register of the service channel, of a digital channel or of the common one, or none that is listed
 pub data Place : Type 0 where
   service : ServiceRegister → Place
   digital : ℕ → DigitalRegister → Place
   common : CommonRegister → Place
   unlisted : Place
-  beyond : Place
 
--- the register with a number, among those of a channel
+-- the register that has a number, among those of a channel
 abbrev pub find : {A : Type 0} → (A → Place) → (A → Row) → ℕ → List A → Place
 find place row n [] = unlisted
 find place row n (r ∷ rs) = cond (eqb n (row r .number)) (place r) (find place row n rs)
 
--- "SWNo = channel times $10 + register"
+-- Registers 1: the parts of a SWNo
 abbrev pub channelOf : ℕ → ℕ
 channelOf n = n / 0x10
 
 abbrev pub registerOf : ℕ → ℕ
 registerOf n = n % 0x10
 
+-- Service 0 and question 1: the highest SWNo
+abbrev pub highestSWNo : ℕ
+highestSWNo = 0x11F
+
 unfoldable pub place : ℕ → Place
 place n =
-    cond (ltb 0x11F n) beyond
-    (cond (eqb (channelOf n) 0) (find service serviceRow (registerOf n) serviceRegisters)
+    cond (eqb (channelOf n) 0) (find service serviceRow (registerOf n) serviceRegisters)
     (cond (eqb (channelOf n) 17) (find common commonRow (registerOf n) commonRegisters)
-    (find (digital (channelOf n)) digitalRow (registerOf n) digitalRegisters)))
+    (cond (isDigital (channelOf n)) (find (digital (channelOf n)) digitalRow (registerOf n) digitalRegisters) unlisted))
 
--- the row of a place. What is not listed has none: R 0 0 stands there, and no question but 1 and 2 is asked of it
+-- the row of a place. What is not listed has none: R 0 0 stands there, and question 2 refuses it before its row is looked at
 abbrev pub rowOf : Place → Row
 rowOf (service r) = serviceRow r
 rowOf (digital k r) = digitalRow r
 rowOf (common r) = commonRow r
 rowOf unlisted = R 0 0
-rowOf beyond = R 0 0
 
 abbrev pub access : Place → Access
 access p = rowOf p .access

@@ -1,4 +1,4 @@
--- Document 01, "A channel", on settings: Functions, Enablebit, references, InA and InB, Output. Definitions only.
+-- Document 01, A channel 2 to 7: what a channel's settings say. Definitions only.
 use mathlib.Core.Bool.{Bool, true, false, not, cond, _&&_, _||_}
 use mathlib.Core.List.{List}
 use Prim.Native.Nat.{ℕ, _-_, _/_, _%_, _^_}
@@ -15,11 +15,11 @@ use Rattle.model.specs.State.{outFlag, terminal}
 abbrev pub bit : ℕ → ℕ → Bool
 bit k n = eqb (n / 2 ^ k % 2) 1
 
--- "digital channels 1 to 16"
-abbrev pub digital : ℕ → Bool
-digital k = leb 1 k && leb k 16
+-- Head 4: the numbers of the digital channels
+abbrev pub isDigital : ℕ → Bool
+isDigital k = leb 1 k && leb k 16
 
--- "Functions: 0 input, $10 output, $20 one-shot, $30 duty cycle, $50 timer", and "a box value with other settings acts as Functions 0, reference 0"
+-- A channel 3 and 6: the five functions by their bytes; every other byte acts as 0
 unfoldable pub functionOf : ℕ → Function
 functionOf n = cond (eqb n 0x10) Output (cond (eqb n 0x20) OneShot (cond (eqb n 0x30) DutyCycle (cond (eqb n 0x50) Timer Input)))
 
@@ -39,14 +39,14 @@ isSpecial OneShot = true
 isSpecial DutyCycle = true
 isSpecial Timer = true
 
--- "A reference is no channel, or a channel from 1 to 16"
+-- A channel 5: a reference byte names a digital channel or none
 unfoldable pub referenceOf : ℕ → Reference
-referenceOf n = cond (digital n) (ToChannel n) None
+referenceOf n = cond (isDigital n) (ToChannel n) None
 
--- any other number acts as no channel
+-- A channel 6: a reference that holds any other number acts as none
 abbrev pub isSet : Reference → Bool
 isSet None = false
-isSet (ToChannel k) = digital k
+isSet (ToChannel k) = isDigital k
 
 abbrev pub functions : Channel → Function
 functions ch = functionOf (ch .config .functions)
@@ -57,11 +57,11 @@ refA ch = referenceOf (ch .config .«ref_a»)
 abbrev pub refB : Channel → Reference
 refB ch = referenceOf (ch .config .«ref_b»)
 
--- "if a reference is set"
+-- one reference at least is set
 abbrev pub hasReference : Channel → Bool
 hasReference ch = isSet (refA ch) || isSet (refB ch)
 
--- "Enablebit 0 simulates input, 2 feedback, 5 enables underload, 6 silences overload"
+-- A channel 4: the four bits of Enablebit that act
 abbrev pub simulatesInput : Channel → Bool
 simulatesInput ch = bit 0 (ch .config .enablebit)
 
@@ -74,18 +74,18 @@ enablesUnderload ch = bit 5 (ch .config .enablebit)
 abbrev pub silencesOverload : Channel → Bool
 silencesOverload ch = bit 6 (ch .config .enablebit)
 
--- InFlag of a reference, where `levels` are the InFlags of channels 1 to 16: "0 without a reference"
+-- A channel 7: InFlag of a reference, where `levels` are the InFlags of channels 1 to 16; 0 where there is none
 abbrev pub levelOf : List Bool → Reference → Bool
 levelOf levels None = false
-levelOf levels (ToChannel k) = digital k && getD levels (k - 1) false
+levelOf levels (ToChannel k) = isDigital k && getD levels (k - 1) false
 
--- "InA is InFlag of Ref_A, InB of Ref_B; simulated feedback gives OutFlag and its opposite, reference or not"
+-- A channel 7: InA and InB; simulated feedback comes before the references
 unfoldable pub inA : List Bool → Channel → Bool
 inA levels ch = cond (simulatesFeedback ch) (terminal ch) (levelOf levels (refA ch))
 
 unfoldable pub inB : List Bool → Channel → Bool
 inB levels ch = cond (simulatesFeedback ch) (not (terminal ch)) (levelOf levels (refB ch))
 
--- "Output = OutFlag and Functions not 0"
+-- A channel 2: whether the terminal is driven
 unfoldable pub output : Channel → Bool
 output ch = outFlag ch && notInput (functions ch)

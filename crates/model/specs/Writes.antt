@@ -1,4 +1,4 @@
--- Document 01, "Registers": which bytes each register allows (question 7), and what an accepted write does. Definitions only.
+-- Document 01, Registers and question 7: which bytes each register allows, and what an accepted write does. Definitions only.
 use mathlib.Core.Bool.{Bool, true, cond, _&&_}
 use mathlib.Core.List.{List, [], _∷_, map}
 use Prim.Native.Nat.{ℕ, suc}
@@ -22,14 +22,18 @@ use Rattle.model.specs.declared.CommonRegister.{CommonRegister}
 use Rattle.model.specs.declared.ServiceRegister.the-variants.{Highest, Reset, FreeRunTimer, WDTimer, ModuleConfig, WDPreset, WriteEnable, CommonError}
 use Rattle.model.specs.declared.DigitalRegister.the-variants.{FlagReg, OutTimer, Counter, OutCurrent, OperatingTime, UserBytes, FBTimer, FBPreset, OutPreset, ChConfig, MinCurrent, MaxCurrent, UserReals, Maintenance, ChError}
 use Rattle.model.specs.declared.CommonRegister.the-variants.{OutFlags, InFlags, IOChError, ChError as CommonChError}
-use Rattle.model.specs.State.{withCounter, withOperating, withUser, withReals, withMaintenance, setOutTimer, setFBTimer, setOutPreset, setFBPreset, setMinCurrent, setMaxCurrent, withChannels, channelAt, putChannel}
+use Rattle.model.specs.State.{withCounter, withOperating, withUser, withReals, withMaintenance, setOutTimer, setFBTimer, setOutPreset}
+use Rattle.model.specs.State.{setFBPreset, setMinCurrent, setMaxCurrent, freeRunTimer, moduleConfig, wdPreset, writeEnable, saveTicks, sharedOf}
+use Rattle.model.specs.State.{wdTimer, serviceOf, withChannels, channelAt, putChannel}
 use Rattle.model.specs.Settings.{bit}
-use Rattle.model.specs.Channel.{acknowledged, simulate, takeCurrent, flagRegWritten, outFlagsWritten, chConfigWritten, keepCounter, keepOperating, keepUser}
+use Rattle.model.specs.Channel.{acknowledged, simulate, takeCurrent, flagRegWritten, outFlagsWritten, chConfigWritten}
+use Rattle.model.specs.Channel.{keepCounter, keepOperating, keepUser}
 use Rattle.model.specs.Errors.{serviceAcknowledged}
-use Rattle.model.specs.Registers.{Place, service, digital, common, unlisted, beyond}
-use Rattle.model.specs.Image.{configFrom, configAllowed, moduleConfigAllowed, entryOf, restored, restoredShared, noServiceBits, externalReset}
+use Rattle.model.specs.Registers.{Place, service, digital, common, unlisted}
+use Rattle.model.specs.Image.{configFrom, configAllowed, moduleConfigAllowed, entryOf, restored, restoredShared, noServiceBits, hisAfterReset}
 
--- ---- allowed values
+-- ---- question 7
+-- Service F: every byte is 0
 abbrev pub allZero : List ℕ → Bool
 allZero [] = true
 allZero (b ∷ bs) = eqb b 0 && allZero bs
@@ -66,40 +70,39 @@ allowed (service r) bs = serviceAllowed r bs
 allowed (digital k r) bs = digitalAllowed r bs
 allowed (common r) bs = true
 allowed unlisted bs = true
-allowed beyond bs = true
 
--- ---- the values that allowed bytes give
+-- ---- Time and amperes 2: the counts that allowed Reals give
 abbrev pub timerFrom : List ℕ → TimerCount
 timerFrom bs = timer (countOf timerUnits (realFrom bs))
 
 abbrev pub operatingFrom : List ℕ → OperatingCount
 operatingFrom bs = record { 0 = unitsOf operatingUnits (realFrom bs) }
 
--- ---- a service register, in three parts: what every channel may learn, the service channel's own errors, and each channel
-abbrev pub setConfig : Config → Shared → Shared
-setConfig g s = record { «free_run_timer» = s .«free_run_timer»; «module_config» = g; «wd_preset» = s .«wd_preset»; «write_enable» = s .«write_enable»; «save_ticks» = s .«save_ticks» }
+-- ---- a service register, in three parts: the shared record, the service channel's own errors, and each channel
+abbrev pub setModuleConfig : Config → Shared → Shared
+setModuleConfig g s = sharedOf (freeRunTimer s) g (wdPreset s) (writeEnable s) (saveTicks s)
 
-abbrev pub setPreset : TimerCount → Shared → Shared
-setPreset t s = record { «free_run_timer» = s .«free_run_timer»; «module_config» = s .«module_config»; «wd_preset» = t; «write_enable» = s .«write_enable»; «save_ticks» = s .«save_ticks» }
+abbrev pub setWDPreset : TimerCount → Shared → Shared
+setWDPreset t s = sharedOf (freeRunTimer s) (moduleConfig s) t (writeEnable s) (saveTicks s)
 
 abbrev pub setWriteEnable : Bool → Shared → Shared
-setWriteEnable b s = record { «free_run_timer» = s .«free_run_timer»; «module_config» = s .«module_config»; «wd_preset» = s .«wd_preset»; «write_enable» = b; «save_ticks» = s .«save_ticks» }
+setWriteEnable b s = sharedOf (freeRunTimer s) (moduleConfig s) (wdPreset s) b (saveTicks s)
 
--- "Reset does the same from the kept values"
+-- Setup image 3: a reset restores the kept settings, as power-up does
 unfoldable pub sharedWritten : ServiceRegister → List ℕ → Shared → Shared
 sharedWritten Highest bs s = s
-sharedWritten Reset bs s = restoredShared (s .«module_config») (s .«wd_preset»)
+sharedWritten Reset bs s = restoredShared (moduleConfig s) (wdPreset s)
 sharedWritten FreeRunTimer bs s = s
 sharedWritten WDTimer bs s = s
-sharedWritten ModuleConfig bs s = setConfig (configFrom bs) s
-sharedWritten WDPreset bs s = setPreset (timerFrom bs) s
+sharedWritten ModuleConfig bs s = setModuleConfig (configFrom bs) s
+sharedWritten WDPreset bs s = setWDPreset (timerFrom bs) s
 sharedWritten WriteEnable bs s = setWriteEnable (eqb (getD bs 0 0) 1) s
 sharedWritten CommonError bs s = s
 
--- "with His bit 6 instead"
+-- Setup image 3: His after a reset; and Registers 8
 unfoldable pub errorsWritten : ServiceRegister → Service → Service
 errorsWritten Highest v = v
-errorsWritten Reset v = record { «wd_timer» = v .«wd_timer»; act = noServiceBits; his = externalReset }
+errorsWritten Reset v = serviceOf (wdTimer v) noServiceBits hisAfterReset
 errorsWritten FreeRunTimer v = v
 errorsWritten WDTimer v = v
 errorsWritten ModuleConfig v = v
@@ -118,19 +121,20 @@ everyWritten WriteEnable ch = ch
 everyWritten CommonError ch = acknowledged ch
 
 abbrev pub serviceWritten : ServiceRegister → List ℕ → Module → Module
-serviceWritten r bs m = record { shared = sharedWritten r bs (m .shared); service = errorsWritten r (m .service); channels = map (everyWritten r) (m .channels) }
+serviceWritten r bs m =
+    record { shared = sharedWritten r bs (m .shared); service = errorsWritten r (m .service); channels = map (everyWritten r) (m .channels) }
 
--- ---- a digital register: "A protected write is kept at once, and so is a write of register 2, 4 or 5 while WriteEnable is TRUE"
+-- ---- a digital register. A channel 17: only registers 2, 4 and 5 have working values of their own, kept while WriteEnable is TRUE
 abbrev pub keepIf : Bool → (Channel → Channel) → Channel → Channel
 keepIf enabled keep ch = cond enabled (keep ch) ch
 
 unfoldable pub digitalWritten : DigitalRegister → Shared → List ℕ → Channel → Channel
 digitalWritten FlagReg s bs ch = flagRegWritten (getD bs 0 0) ch
 digitalWritten OutTimer s bs ch = setOutTimer (timerFrom bs) ch
-digitalWritten Counter s bs ch = keepIf (s .«write_enable») keepCounter (withCounter (signedNumber bs) ch)
+digitalWritten Counter s bs ch = keepIf (writeEnable s) keepCounter (withCounter (signedNumber bs) ch)
 digitalWritten OutCurrent s bs ch = takeCurrent s (realFrom bs) ch
-digitalWritten OperatingTime s bs ch = keepIf (s .«write_enable») keepOperating (withOperating (operatingFrom bs) ch)
-digitalWritten UserBytes s bs ch = keepIf (s .«write_enable») keepUser (withUser bs ch)
+digitalWritten OperatingTime s bs ch = keepIf (writeEnable s) keepOperating (withOperating (operatingFrom bs) ch)
+digitalWritten UserBytes s bs ch = keepIf (writeEnable s) keepUser (withUser bs ch)
 digitalWritten FBTimer s bs ch = setFBTimer (timerFrom bs) ch
 digitalWritten FBPreset s bs ch = setFBPreset (timerFrom bs) ch
 digitalWritten OutPreset s bs ch = setOutPreset (timerFrom bs) ch
@@ -141,7 +145,7 @@ digitalWritten UserReals s bs ch = withReals bs ch
 digitalWritten Maintenance s bs ch = withMaintenance bs ch
 digitalWritten ChError s bs ch = ch
 
--- ---- a common register: what its bit does to its channel, and bit i of the two bytes
+-- ---- a common register: what a channel's bit does to it, and which bit of the word that is
 abbrev pub bitWritten : CommonRegister → Bool → Channel → Channel
 bitWritten OutFlags b ch = outFlagsWritten b ch
 bitWritten InFlags b ch = simulate b ch
@@ -161,4 +165,3 @@ written (service r) bs m = serviceWritten r bs m
 written (digital k r) bs m = putChannel k (digitalWritten r (m .shared) bs (channelAt m k)) m
 written (common r) bs m = withChannels (each (commonWritten r bs) 0 (m .channels)) m
 written unlisted bs m = m
-written beyond bs m = m

@@ -30,8 +30,8 @@ pub record Counted (counter : ℤ) (operating : OperatingCount) (user : List ℕ
 -- an entry's values in their ranges
 pub record Held (e : Entry) : Type 0 where
   pub config : T (configAllowed (configBytes (e .config)))
-  pub feedback : Preset (e .feedback .0)
-  pub out : Preset (e .out .0)
+  pub feedback : Preset (e .fb-preset .0)
+  pub out : Preset (e .out-preset .0)
   pub min : Limit (e .min)
   pub max : Limit (e .max)
   pub reals : length (e .reals) ≡ 8
@@ -131,8 +131,8 @@ module _ (e : Entry) (h : Held e) where
   pub entry-back : entryFrom (entryBytes e) ≡ e
   unfolding entryFrom entryBytes signedBytes realBytes bytesOf
   entry-back =
-      let feedback = signed-back (e .feedback .0) (h .feedback .fits) in
-      let out = signed-back (e .out .0) (h .out .fits) in
+      let feedback = signed-back (e .fb-preset .0) (h .feedback .fits) in
+      let out = signed-back (e .out-preset .0) (h .out .fits) in
       let min = limit-back (e .min) (h .min) in
       let max = limit-back (e .max) (h .max) in
       let reals = take-at (e .reals) (e .maintenance ++ (e .user ++ (signedBytes 4 (e .counter) ++ bytesOf 4 (e .operating .0)))) 8 (h .reals) in
@@ -143,8 +143,8 @@ module _ (e : Entry) (h : Held e) where
       λ i.
       record {
         config = e .config;
-        feedback = record { 0 = feedback i };
-        out = record { 0 = out i };
+        fb-preset = record { 0 = feedback i };
+        out-preset = record { 0 = out i };
         min = min i;
         max = max i;
         reals = reals i;
@@ -159,8 +159,8 @@ module _ (e : Entry) (h : Held e) where
   unfolding entryAllowed entryBytes signedBytes realBytes bytesOf
   entry-allowed =
       join (configAllowed (configBytes (e .config))) _ (h .config)
-      (join (presetCountAllowed (signedBytes 4 (e .feedback .0))) _ (h .feedback .allowed)
-      (join (presetCountAllowed (signedBytes 4 (e .out .0))) _ (h .out .allowed)
+      (join (presetCountAllowed (signedBytes 4 (e .fb-preset .0))) _ (h .feedback .allowed)
+      (join (presetCountAllowed (signedBytes 4 (e .out-preset .0))) _ (h .out .allowed)
       (join (limitAllowed (realFrom (realBytes (e .min)))) _ (rw (limit-back (e .min) (h .min)) (h .min .allowed))
       (rw (limit-back (e .max) (h .max)) (h .max .allowed)))))
 

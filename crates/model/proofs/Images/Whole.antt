@@ -15,7 +15,8 @@ use Rattle.model.specs.declared.Reply.the-variants.{Done}
 use Rattle.model.specs.Reads.{configBytes}
 use Rattle.model.specs.Image.{Setup, entriesBytes, total, body, encode, part, configFrom, entriesFrom, decode, sizeRight, countsRight, sumRight, moduleConfigAllowed, presetCountAllowed, entriesAllowed, valuesAllowed}
 use Rattle.model.specs.Questions.{powerUpQuestions, powerUpReply}
-use Rattle.model.proofs.Images.Tests.{both, join, asked-yes, yes-asked}
+use Rattle.model.proofs.Laws.Replies.{asked-yes, yes-asked}
+use Rattle.model.proofs.Images.Tests.{both, join}
 use Rattle.model.proofs.Images.Values.{signed-again, signed-back, Preset, preset-from}
 use Rattle.model.proofs.Images.Parts.{bytes-part, bytes-drop, part-length, part-more, one-byte, beside}
 use Rattle.model.proofs.Images.Entries.{config-again}
@@ -23,8 +24,8 @@ use Rattle.model.proofs.Images.Rows.{AllHeld, entries-again, entries-he
 
 -- a setup's values in their ranges
 pub record SetupHeld (s : Setup) : Type 0 where
-  pub config : T (moduleConfigAllowed (configBytes (s .config)))
-  pub preset : Preset (s .preset .0)
+  pub config : T (moduleConfigAllowed (configBytes (s .module-config)))
+  pub preset : Preset (s .wd-preset .0)
   pub count : length (s .entries) ≡ 16
   pub entries : AllHeld (s .entries)
 
@@ -126,7 +127,7 @@ module _ (s : Setup) (h : SetupHeld s) where
   encode-rows = append-assoc (entriesBytes (s .entries)) (1 ∷ []) _
 
   -- where WDPreset stands
-  encode-preset : part 5 4 (encode s) ≡ signedBytes 4 (s .preset .0)
+  encode-preset : part 5 4 (encode s) ≡ signedBytes 4 (s .wd-preset .0)
   unfolding encode body signedBytes bytesOf
   encode-preset = refl
 
@@ -134,13 +135,13 @@ module _ (s : Setup) (h : SetupHeld s) where
   pub decode-back : decode (encode s) ≡ s
   unfolding decode
   decode-back =
-      let config : configFrom (part 1 4 (encode s)) ≡ s .config = unfold encode body in refl in
-      let preset : signedNumber (part 5 4 (encode s)) ≡ s .preset .0 = ap signedNumber encode-preset ∙ signed-back (s .preset .0) (h .preset .fits) in
+      let config : configFrom (part 1 4 (encode s)) ≡ s .module-config = unfold encode body in refl in
+      let preset : signedNumber (part 5 4 (encode s)) ≡ s .wd-preset .0 = ap signedNumber encode-preset ∙ signed-back (s .wd-preset .0) (h .preset .fits) in
       let entries : entriesFrom 16 (drop 10 (encode s)) ≡ s .entries =
       ap (entriesFrom 16) encode-rows
       ∙ ap (λ (n : ℕ). entriesFrom n (entriesBytes (s .entries) ++ ((1 ∷ []) ++ sumBytes s))) (sym (h .count))
       ∙ entries-back (s .entries) _ (h .entries) in
-      λ i. record { config = config i; preset = record { 0 = preset i }; entries = entries i }
+      λ i. record { module-config = config i; wd-preset = record { 0 = preset i }; entries = entries i }
 
   -- the three counts stand where they are looked for
   counts-right : T (countsRight (encode s))
@@ -164,10 +165,10 @@ module _ (s : Setup) (h : SetupHeld s) where
   values-right : T (valuesAllowed (encode s))
   unfolding valuesAllowed
   values-right =
-      let config : part 1 4 (encode s) ≡ configBytes (s .config) = unfold encode body in refl in
+      let config : part 1 4 (encode s) ≡ configBytes (s .module-config) = unfold encode body in refl in
       let entries = rw (h .count) at (entries-allowed (s .entries) ((1 ∷ []) ++ sumBytes s) (h .entries)) in
       rw (config, encode-preset, encode-rows)
-      (join (moduleConfigAllowed (configBytes (s .config))) _ (h .config) (join (presetCountAllowed (signedBytes 4 (s .preset .0))) _ (h .preset .allowed) entries))
+      (join (moduleConfigAllowed (configBytes (s .module-config))) _ (h .config) (join (presetCountAllowed (signedBytes 4 (s .wd-preset .0))) _ (h .preset .allowed) entries))
 
   -- and is accepted
   pub encode-accepted : powerUpReply (encode s) ≡ Done 0

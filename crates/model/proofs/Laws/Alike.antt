@@ -35,7 +35,7 @@ use Rattle.model.specs.TwoLists.{namesOf, names, among, stranger}
 use Rattle.model.proofs.Laws.Tests.{either, both, left, right, range}
 use Rattle.model.proofs.Laws.Lists.{length-each, at-each, at-map}
 use Rattle.model.proofs.Laws.Places.{place-cases}
-use Rattle.model.proofs.Laws.Inputs.{Inputs, inputs, taken, simulated, in-driven, in-reviewed, write-in, in-written, in-read, every-in, in-every, common-in, in-common}
+use Rattle.model.proofs.Laws.Inputs.{Inputs, inputs, taken, simulated, in-driven, in-tick, given, kept-if, write-in, in-written, in-read, every-in, in-every, common-in, in-common}
 
 -- ---- names
 abbrev pub Within : List ℕ → List ℕ → Type 0
@@ -63,7 +63,7 @@ pub record Strange (c : ℕ) (ns : List ℕ) (k : ℕ) : Type 0 where
 pub stranger-facts : (c : ℕ) (ns : List ℕ) (k : ℕ) → stranger c ns k ≡ true → Strange c ns k
 unfolding stranger
 stranger-facts c ns k e =
-    let (d, f) = both (Settings.digital k) (not (eqb k c) && not (among k ns)) e in
+    let (d, f) = both (Settings.isDigital k) (not (eqb k c) && not (among k ns)) e in
     let (g, h) = both (not (eqb k c)) (not (among k ns)) f in
     let (l, u) = range k d in
     record { low = l; high = u; other = eqb-false k c (not-true (eqb k c) g); unnamed = λ t. subst T (not-true (among k ns) h) t }
@@ -133,8 +133,12 @@ module _ (c : ℕ) (ns : List ℕ) where
       (channels-set i x (getD cs′ i nothing) (λ l. record { same = λ e. absurd (d e); held = λ e. absurd (d e); seen = λ t. absurd (u t) }) r)
 
   pub held-taken : (who : Config → Bool) (b : Bool) (n : Inputs) → Held n → Held (taken who b n)
-  unfolding taken
+  unfolding taken given
   held-taken who b n h = either Held (who (n .config)) h h
+
+  held-kept : (b : Bool) (n : Inputs) → Held n → Held (kept-if b n)
+  unfolding kept-if
+  held-kept b n h = h
 
   held-every : (r : ServiceRegister) (n : Inputs) → Held n → Held (every-in r n)
   unfolding every-in
@@ -155,44 +159,44 @@ module _ (c : ℕ) (ns : List ℕ) where
   held-common CommonChError bs i n h = h
 
   -- a write of ChConfig names what its bytes name
-  held-written : (r : DigitalRegister) (bs : List ℕ) → (digitalRow r .number ≡ 9 → Within ns (names (Image.configFrom bs))) → (n : Inputs) → Held n → Held (write-in r bs n)
-  unfolding write-in
-  held-written FlagReg bs w n h = held-taken simulated _ n h
-  held-written OutTimer bs w n h = h
-  held-written Counter bs w n h = h
-  held-written OutCurrent bs w n h = h
-  held-written OperatingTime bs w n h = h
-  held-written UserBytes bs w n h = h
-  held-written FBTimer bs w n h = h
-  held-written FBPreset bs w n h = h
-  held-written OutPreset bs w n h = h
-  held-written ChConfig bs w n h = w refl
-  held-written MinCurrent bs w n h = h
-  held-written MaxCurrent bs w n h = h
-  held-written UserReals bs w n h = h
-  held-written Maintenance bs w n h = h
-  held-written ChError bs w n h = h
+  held-written : (r : DigitalRegister) (enabled : Bool) (bs : List ℕ) → (digitalRow r .number ≡ 9 → Within ns (names (Image.configFrom bs))) → (n : Inputs) → Held n → Held (write-in r enabled bs n)
+  unfolding write-in kept-if
+  held-written FlagReg en bs w n h = held-taken simulated _ n h
+  held-written OutTimer en bs w n h = h
+  held-written Counter en bs w n h = h
+  held-written OutCurrent en bs w n h = h
+  held-written OperatingTime en bs w n h = h
+  held-written UserBytes en bs w n h = h
+  held-written FBTimer en bs w n h = h
+  held-written FBPreset en bs w n h = h
+  held-written OutPreset en bs w n h = h
+  held-written ChConfig en bs w n h = w refl
+  held-written MinCurrent en bs w n h = h
+  held-written MaxCurrent en bs w n h = h
+  held-written UserReals en bs w n h = h
+  held-written Maintenance en bs w n h = h
+  held-written ChError en bs w n h = h
 
   module _ (1≤c : 1 ≤ c) (m m′ : Module) (a : Alike m m′) where
     -- an accepted write, at any register, on both sides
     pub written-alike : (n : ℕ) (bs : List ℕ) → (n ≡ c * 0x10 + 0x9 → Within ns (names (Image.configFrom bs))) → Alike (Writes.written (place n) bs m) (Writes.written (place n) bs m′)
     unfolding Writes.written
     written-alike n bs w =
-        place-cases (λ p. Alike (Writes.written p bs m) (Writes.written p bs m′)) n a a
-        (λ e r. (ap (Writes.sharedWritten r bs) (a .0), channels-map _ _ (λ i x y h. near-by (Writes.everyWritten r) (every-in r) (in-every r) (λ p. held-every r) h) (a .1)))
-        (λ e r. (a .0, channels-each _ (λ i x y h. near-by (Writes.commonWritten r bs i) (common-in r bs i) (in-common r bs i) (λ p. held-common r bs i) h) (a .1)))
+        place-cases (λ p. Alike (Writes.written p bs m) (Writes.written p bs m′)) n a
+        (λ e r q. (ap (Writes.sharedWritten r bs) (a .0), channels-map _ _ (λ i x y h. near-by (Writes.everyWritten r) (every-in r) (in-every r) (λ p. held-every r) h) (a .1)))
+        (λ e r q. (a .0, channels-each _ (λ i x y h. near-by (Writes.commonWritten r bs i) (common-in r bs i) (in-common r bs i) (λ p. held-common r bs i) h) (a .1)))
         (λ l₁ l₂ r q. (
           a .0,
           rw (← a .0)
-              (channels-set (n / 16 - 1) _ _ (λ l. near-by (Writes.digitalWritten r (m .shared) bs) (write-in r bs) (in-written r _ bs) (λ e. held-written r bs (λ z. w (omega arith))) (a .1 .near _ l)) (a .1)),
+              (channels-set (n / 16 - 1) _ _ (λ l. near-by (Writes.digitalWritten r (m .shared) bs) (write-in r (m .shared .«write_enable») bs) (in-written r _ bs) (λ e. held-written r _ bs (λ z. w (omega arith))) (a .1 .near _ l)) (a .1)),
         ))
 
     pub read-alike : (n : ℕ) → Alike (Reads.afterRead (place n) m) (Reads.afterRead (place n) m′)
     unfolding Reads.afterRead
     read-alike n =
-        place-cases (λ p. Alike (Reads.afterRead p m) (Reads.afterRead p m′)) n a a
-        (λ e. elim [ Highest ↦ a | Reset ↦ a | FreeRunTimer ↦ a | WDTimer ↦ a | ModuleConfig ↦ a | WDPreset ↦ a | WriteEnable ↦ a | CommonError ↦ a ])
-        (λ e r. a)
+        place-cases (λ p. Alike (Reads.afterRead p m) (Reads.afterRead p m′)) n a
+        (λ e r q. a)
+        (λ e r q. a)
         (λ l₁ l₂ r q. (a .0, channels-set (n / 16 - 1) _ _ (λ l. near-kept (Reads.digitalRead r) (in-read r) (a .1 .near _ l)) (a .1)))
 
     pub put-alike : (k : ℕ) (f : Channel → Channel) (F : Inputs → Inputs) → ((ch : Channel) → inputs (f ch) ≡ F (inputs ch)) → ((n : Inputs) → Held n → Held (F n))
@@ -202,12 +206,12 @@ module _ (c : ℕ) (ns : List ℕ) where
     -- InFlag of a reference that is among ns
     level-alike : (b : ℕ) → Within ns (namesOf (referenceOf b)) → levelOf (levels m) (referenceOf b) ≡ levelOf (levels m′) (referenceOf b)
     unfolding referenceOf
-    level-alike b w = go (Settings.digital b) refl w
+    level-alike b w = go (Settings.isDigital b) refl w
       where
-        go : (t : Bool) → Settings.digital b ≡ t → Within ns (namesOf (cond t (ToChannel b) None)) → levelOf (levels m) (cond t (ToChannel b) None) ≡ levelOf (levels m′) (cond t (ToChannel b) None)
+        go : (t : Bool) → Settings.isDigital b ≡ t → Within ns (namesOf (cond t (ToChannel b) None)) → levelOf (levels m) (cond t (ToChannel b) None) ≡ levelOf (levels m′) (cond t (ToChannel b) None)
         go true e v =
             let (l₁, l₂) = range b e in
-            ap (λ (x : Bool). Settings.digital b && x)
+            ap (λ (x : Bool). Settings.isDigital b && x)
             (List·getD-map inFlag (m .channels) (b - 1) nothing
             ∙ ap (λ (n : Inputs). n .level) (a .1 .near (b - 1) (omega arith) .seen (subst (λ (j : ℕ). T (among j ns)) (omega arith) (v .0)))
             ∙ sym (List·getD-map inFlag (m′ .channels) (b - 1) nothing))
@@ -244,7 +248,7 @@ module _ (c : ℕ) (ns : List ℕ) where
     pub value-alike : c ≤ 16 → (n : ℕ) → n / 16 ≡ c → Reads.bytesRead (place n) m ≡ Reads.bytesRead (place n) m′
     unfolding Reads.bytesRead
     value-alike c≤16 n e =
-        place-cases (λ p. Reads.bytesRead p m ≡ Reads.bytesRead p m′) n refl refl (λ z r. absurd (omega arith)) (λ z r. absurd (omega arith)) λ l₁ l₂ r q.
+        place-cases (λ p. Reads.bytesRead p m ≡ Reads.bytesRead p m′) n refl (λ z r q. absurd (omega arith)) (λ z r q. absurd (omega arith)) λ l₁ l₂ r q.
         rw e (bytes-alike r (a .1 .near (c - 1) (omega arith)))
 
     -- a tick, where WDTimer is the same
@@ -266,8 +270,8 @@ module _ (c : ℕ) (ns : List ℕ) where
           rw (← a .0, ← e) (channels-map _ _ (λ i x y h.
               record {
                 same = λ p. reviewed-alike s due (Tick.driven s out x) (subst Held (sym (in-driven s out x)) (h .held p)) ∙ ap (λ (z : Channel). Tick.reviewed s due (levels m′) (Tick.driven s out z)) (h .same p);
-                held = λ p. subst Held (sym (in-reviewed s due (levels m) (Tick.driven s out x) ∙ in-driven s out x)) (h .held p);
-                seen = λ t. in-reviewed s due (levels m) (Tick.driven s out x) ∙ in-driven s out x ∙ h .seen t ∙ sym (in-reviewed s due (levels m′) (Tick.driven s out y) ∙ in-driven s out y);
+                held = λ p. subst Held (sym (in-tick s due (levels m) out x)) (held-kept due (inputs x) (h .held p));
+                seen = λ t. in-tick s due (levels m) out x ∙ ap (kept-if due) (h .seen t) ∙ sym (in-tick s due (levels m′) out y);
               }) (a .1)),
         )
 
@@ -281,10 +285,10 @@ module _ (c : ℕ) (ns : List ℕ) where
     unfolding Writes.written
     written-stranger n bs e =
         let h = stranger-facts c ns (n / 16) e in
-        place-cases (λ p. Alike (Writes.written p bs m) m′) n a a (λ z r. absurd (omega (arith, h .low))) (λ z r. absurd (omega (arith, h .high))) (λ l₁ l₂ r q. put-stranger (n / 16) _ e)
+        place-cases (λ p. Alike (Writes.written p bs m) m′) n a (λ z r q. absurd (omega (arith, h .low))) (λ z r q. absurd (omega (arith, h .high))) (λ l₁ l₂ r q. put-stranger (n / 16) _ e)
 
     pub read-stranger : (n : ℕ) → stranger c ns (n / 16) ≡ true → Alike (Reads.afterRead (place n) m) m′
     unfolding Reads.afterRead
     read-stranger n e =
         let h = stranger-facts c ns (n / 16) e in
-        place-cases (λ p. Alike (Reads.afterRead p m) m′) n a a (λ z r. absurd (omega (arith, h .low))) (λ z r. absurd (omega (arith, h .high))) (λ l₁ l₂ r q. put-stranger (n / 16) _ e)
+        place-cases (λ p. Alike (Reads.afterRead p m) m′) n a (λ z r q. absurd (omega (arith, h .low))) (λ z r q. absurd (omega (arith, h .high))) (λ l₁ l₂ r q. put-stranger (n / 16) _ e)

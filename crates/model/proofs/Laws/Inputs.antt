@@ -1,11 +1,13 @@
--- What decides a channel's InFlag, with the references that it names: the part of a channel that another may learn. For each rule, what it does to that part. Assumes nothing.
+-- What decides a channel's InFlag and Counter, with the references that it names: the part of a channel that another may learn, and that a list of calls tells. For each rule,
+-- what it does to that part. Assumes nothing.
 use mathlib.Core.Path.{_≡_, refl, _∙_, ap}
 use mathlib.Core.Bool.{Bool, true, false, cond, not, _&&_, Bool·beq}
 use mathlib.Core.List.{List}
 use Prim.Native.Nat.{ℕ}
 use lib.ListN.{getD}
 use lib.Ieee.{Float}
-use Rattle.integers.specs.Bytes.{number}
+use lib.IntN.{ℤ}
+use Rattle.integers.specs.Bytes.{number, signedNumber}
 use Rattle.counts.specs.Counts.{counterStep, isPositive}
 use Rattle.model.specs.declared.Config.{Config}
 use Rattle.model.specs.declared.Function.{Function}
@@ -31,13 +33,23 @@ use Rattle.model.proofs.Laws.Tests.{either}
 pub record Inputs : Type 0 where
   pub level : Bool
   pub config : Config
+  pub counter : ℤ
+  pub kept : ℤ
 
 abbrev pub inputs : Channel → Inputs
-inputs ch = record { level = inFlag ch; config = ch .config }
+inputs ch = record { level = inFlag ch; config = ch .config; counter = ch .counter; kept = ch .kept .counter }
 
--- an InFlag that is given a value where `who` says so of the settings
+-- an InFlag that is given a value: a rise counts
+unfoldable pub given : Bool → Inputs → Inputs
+given b n = record { level = b; config = n .config; counter = cond (b && not (n .level)) (counterStep (n .counter)) (n .counter); kept = n .kept }
+
+-- a Counter that is kept
+unfoldable pub kept-if : Bool → Inputs → Inputs
+kept-if b n = record { level = n .level; config = n .config; counter = n .counter; kept = cond b (n .counter) (n .kept) }
+
+-- the same where `who` says so of the settings
 unfoldable pub taken : (Config → Bool) → Bool → Inputs → Inputs
-taken who b n = cond (who (n .config)) (record { level = b; config = n .config }) n
+taken who b n = cond (who (n .config)) (given b n) n
 
 abbrev pub simulated : Config → Bool
 simulated g = bit 0 (g .enablebit)
@@ -45,11 +57,11 @@ simulated g = bit 0 (g .enablebit)
 abbrev pub sensed : Config → Bool
 sensed g = not (simulated g)
 
-in-becomes : (b : Bool) (ch : Channel) → inputs (Rules.inputBecomes b ch) ≡ record { level = b; config = ch .config }
-unfolding Rules.inputBecomes
+in-becomes : (b : Bool) (ch : Channel) → inputs (Rules.inputBecomes b ch) ≡ given b (inputs ch)
+unfolding Rules.inputBecomes given
 in-becomes b ch = go (b && not (inFlag ch))
   where
-    go : (t : Bool) → inputs (setInFlag b (cond t (withCounter (counterStep (ch .counter)) ch) ch)) ≡ record { level = b; config = ch .config }
+    go : (t : Bool) → inputs (setInFlag b (cond t (withCounter (counterStep (ch .counter)) ch) ch)) ≡ record { level = b; config = ch .config; counter = cond t (counterStep (ch .counter)) (ch .counter); kept = ch .kept .counter }
     go true = refl
     go false = refl
 
@@ -57,7 +69,7 @@ pub in-level : (b : Bool) (ch : Channel) → inputs (Rules.takeLevel b ch) ≡ t
 unfolding Rules.takeLevel taken
 in-level b ch = go (Settings.simulatesInput ch)
   where
-    go : (t : Bool) → inputs (cond t ch (Rules.inputBecomes b ch)) ≡ cond (not t) (record { level = b; config = ch .config }) (inputs ch)
+    go : (t : Bool) → inputs (cond t ch (Rules.inputBecomes b ch)) ≡ cond (not t) (given b (inputs ch)) (inputs ch)
     go true = refl
     go false = in-becomes b ch
 
@@ -65,7 +77,7 @@ pub in-simulate : (b : Bool) (ch : Channel) → inputs (Rules.simulate b ch) ≡
 unfolding Rules.simulate taken
 in-simulate b ch = go (Settings.simulatesInput ch)
   where
-    go : (t : Bool) → inputs (cond t (Rules.inputBecomes b ch) ch) ≡ cond t (record { level = b; config = ch .config }) (inputs ch)
+    go : (t : Bool) → inputs (cond t (Rules.inputBecomes b ch) ch) ≡ cond t (given b (inputs ch)) (inputs ch)
     go true = in-becomes b ch
     go false = refl
 
@@ -98,9 +110,10 @@ module _ (ch : Channel) where
   unfolding Rules.acknowledged
   in-acknowledged = refl
 
-  pub in-saved : (due : Bool) → Kept (Tick.saved due ch)
-  unfolding Tick.saved
-  in-saved due = either Kept due refl refl
+  in-saved : (due : Bool) → inputs (Tick.saved due ch) ≡ kept-if due (inputs ch)
+  unfolding Tick.saved kept-if
+  in-saved true = refl
+  in-saved false = refl
 
   in-judged : (s : Shared) → Kept (Tick.judged s ch)
   unfolding Tick.judged
@@ -180,36 +193,45 @@ in-looked : (s : Shared) (levels : List Bool) (ch : Channel) → inputs (Tick.lo
 unfolding Tick.looked
 in-looked s levels ch = either (Kept ch) (Tick.lookDue s) (in-operated (setFBStatus (Tick.feedbackWrong levels ch) ch)) refl
 
-pub in-reviewed : (s : Shared) (due : Bool) (levels : List Bool) (ch : Channel) → inputs (Tick.reviewed s due levels ch) ≡ inputs ch
+in-reviewed : (s : Shared) (due : Bool) (levels : List Bool) (ch : Channel) → inputs (Tick.reviewed s due levels ch) ≡ kept-if due (inputs ch)
 unfolding Tick.reviewed
-in-reviewed s due levels ch = in-saved _ _ ∙ in-judged _ _ ∙ in-looked _ _ _
+in-reviewed s due levels ch = in-saved _ _ ∙ ap (kept-if due) (in-judged _ _ ∙ in-looked _ _ _)
+
+-- a whole tick
+pub in-tick : (s : Shared) (due : Bool) (levels : List Bool) (out : Bool) (ch : Channel) → inputs (Tick.channelTicked s out due levels ch) ≡ kept-if due (inputs ch)
+in-tick s due levels out ch = in-reviewed s due levels (Tick.driven s out ch) ∙ ap (kept-if due) (in-driven s out ch)
 
 -- ---- writes and reads
-unfoldable pub write-in : DigitalRegister → List ℕ → Inputs → Inputs
-write-in FlagReg bs n = taken simulated (bit 6 (getD bs 0 0)) n
-write-in OutTimer bs n = n
-write-in Counter bs n = n
-write-in OutCurrent bs n = n
-write-in OperatingTime bs n = n
-write-in UserBytes bs n = n
-write-in FBTimer bs n = n
-write-in FBPreset bs n = n
-write-in OutPreset bs n = n
-write-in ChConfig bs n = record { level = n .level; config = Image.configFrom bs }
-write-in MinCurrent bs n = n
-write-in MaxCurrent bs n = n
-write-in UserReals bs n = n
-write-in Maintenance bs n = n
-write-in ChError bs n = n
+unfoldable pub write-in : DigitalRegister → Bool → List ℕ → Inputs → Inputs
+write-in FlagReg enabled bs n = taken simulated (bit 6 (getD bs 0 0)) n
+write-in OutTimer enabled bs n = n
+write-in Counter enabled bs n = kept-if enabled (record { level = n .level; config = n .config; counter = signedNumber bs; kept = n .kept })
+write-in OutCurrent enabled bs n = n
+write-in OperatingTime enabled bs n = n
+write-in UserBytes enabled bs n = n
+write-in FBTimer enabled bs n = n
+write-in FBPreset enabled bs n = n
+write-in OutPreset enabled bs n = n
+write-in ChConfig enabled bs n = record { level = n .level; config = Image.configFrom bs; counter = n .counter; kept = n .kept }
+write-in MinCurrent enabled bs n = n
+write-in MaxCurrent enabled bs n = n
+write-in UserReals enabled bs n = n
+write-in Maintenance enabled bs n = n
+write-in ChError enabled bs n = n
 
 in-keepIf : (b : Bool) (keep : Channel → Channel) → ((x : Channel) → inputs (keep x) ≡ inputs x) → (ch : Channel) → inputs (Writes.keepIf b keep ch) ≡ inputs ch
 in-keepIf b keep h ch = either (Kept ch) b (h ch) refl
 
-pub in-written : (r : DigitalRegister) (s : Shared) (bs : List ℕ) (ch : Channel) → inputs (Writes.digitalWritten r s bs ch) ≡ write-in r bs (inputs ch)
+in-keepCounter : (b : Bool) (ch : Channel) → inputs (Writes.keepIf b Rules.keepCounter ch) ≡ kept-if b (inputs ch)
+unfolding kept-if
+in-keepCounter true ch = refl
+in-keepCounter false ch = refl
+
+pub in-written : (r : DigitalRegister) (s : Shared) (bs : List ℕ) (ch : Channel) → inputs (Writes.digitalWritten r s bs ch) ≡ write-in r (s .«write_enable») bs (inputs ch)
 unfolding write-in Writes.digitalWritten Rules.chConfigWritten
 in-written FlagReg s bs ch = in-flagReg _ ch
 in-written OutTimer s bs ch = refl
-in-written Counter s bs ch = in-keepIf (s .«write_enable») Rules.keepCounter (λ x. refl) _
+in-written Counter s bs ch = in-keepCounter (s .«write_enable») _
 in-written OutCurrent s bs ch = in-current s _ ch
 in-written OperatingTime s bs ch = in-keepIf (s .«write_enable») Rules.keepOperating (λ x. refl) _
 in-written UserBytes s bs ch = in-keepIf (s .«write_enable») Rules.keepUser (λ x. refl) _
@@ -240,10 +262,10 @@ in-read UserReals ch = refl
 in-read Maintenance ch = refl
 in-read ChError ch = in-acknowledged ch
 
--- what a service register does to it: a reset clears InFlag
+-- what a service register does to it: a reset clears InFlag, and gives Counter its kept value
 unfoldable pub every-in : ServiceRegister → Inputs → Inputs
 every-in Highest n = n
-every-in Reset n = record { level = false; config = n .config }
+every-in Reset n = record { level = false; config = n .config; counter = n .kept; kept = n .kept }
 every-in FreeRunTimer n = n
 every-in WDTimer n = n
 every-in ModuleConfig n = n

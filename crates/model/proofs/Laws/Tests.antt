@@ -4,7 +4,7 @@ use mathlib.Core.Bool.{Bool, true, false, cond, _&&_, _||_, false≢true}
 use Prim.Native.Nat.{ℕ, _≤_}
 use lib.Dec.{T, leb}
 use borrow.Author.Tests.{leb-true}
-use Rattle.model.specs.Settings.{digital}
+use Rattle.model.specs.Settings.{isDigital}
 
 -- what holds of both holds of the one that is chosen
 pub either : {A : Type 0} (P : A → Type 0) (b : Bool) {x y : A} → P x → P y → P (cond b x y)
@@ -29,7 +29,7 @@ pub right : (a b : Bool) → T b → T (a || b)
 right true b t = tt
 right false b t = t
 
-pub range : (k : ℕ) → digital k ≡ true → (1 ≤ k) × (k ≤ 16)
+pub range : (k : ℕ) → isDigital k ≡ true → (1 ≤ k) × (k ≤ 16)
 range k e = let (p, q) = both (leb 1 k) (leb k 16) e in (leb-true 1 k p, leb-true k 16 q)
 
 -- what is made of a choice is chosen by the same test
