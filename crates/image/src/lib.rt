@@ -2,7 +2,8 @@
 ghost use mathlib.Core.Path.{_≡_};
 ghost use Rattle.model.specs.Questions.{powerUpReply, storeReply};
 ghost use Rattle.model.specs.Calls.{powerUp, stored};
-ghost use Rattle.image.specs.Answers.{isDone, sizedReply};
+ghost use Rattle.model.specs.Questions.{accepted};
+ghost use Rattle.image.specs.Answers.{sizedReply};
 use model::Module;
 use model::Refusal;
 use model::Reply;
@@ -47,7 +48,7 @@ fn in_order(counts: bool, sum: bool, values: bool) -> Reply
 }
 
 fn is_done(r: Reply) -> bool
-    ensures { λ b. ⌜ b ≡ isDone r ⌝ }
+    ensures { λ b. ⌜ b ≡ accepted r ⌝ }
 {
     match r {
         Reply::Done(_) => true,

@@ -13,7 +13,7 @@ use Rattle.model.specs.declared.Shared.{Shared}
 use Rattle.model.specs.declared.Reply.{Reply}
 use Rattle.model.specs.declared.Reply.the-variants.{Done, Refused}
 use Rattle.model.specs.State.{channelAt, nothing}
-use Rattle.model.specs.Settings.{digital, output}
+use Rattle.model.specs.Settings.{isDigital, output}
 use Rattle.model.specs.Questions.{powerUpReply}
 use Rattle.model.specs.Calls.{Request, read, write, level, current, tick, Stepped, step, powerUp}
 use Rattle.model.specs.Image.{setupOf, encode}
@@ -46,7 +46,7 @@ sampledBy s = record { after = s .box; reply = s .answer .reply }
 
 -- the place of a sample's channel, counted from 0; that of channel 1 where the number is no channel's
 abbrev pub sampleSlot : ℕ → ℕ
-sampleSlot k = cond (digital k) (k - 1) 0
+sampleSlot k = cond (isDigital k) (k - 1) 0
 
 -- what a sample answers, and its channel after it: next where it is done, and ch as it was where it is refused
 abbrev pub takenBy : Reply → Channel → Channel → Taken
@@ -55,7 +55,7 @@ takenBy (Refused w) next ch = record { after = ch; reply = Refused w }
 
 -- Output of channel k, off where there is none
 abbrev pub outputAt : Module → ℕ → Bool
-outputAt m k = digital k && output (channelAt m k)
+outputAt m k = isDigital k && output (channelAt m k)
 
 -- the entry of a list that a call and its own slice make
 abbrev pub requestOf : Call → List ℕ → List ℕ → Request

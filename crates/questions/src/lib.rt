@@ -1,7 +1,7 @@
 // The questions of wire calls and samples, in order: each answer is the refusal of the first
 // question whose answer is no, or what is done.
 ghost use mathlib.Core.Path.{_≡_};
-ghost use Rattle.model.specs.Settings.{digital};
+ghost use Rattle.model.specs.Settings.{isDigital};
 ghost use Rattle.model.specs.Questions.{question1, question2, question3, question4, question6, readReply, writeReply, levelReply, currentReply};
 ghost use Rattle.registers.specs.Places.{placed};
 
@@ -9,21 +9,14 @@ mod values;
 
 use model::Refusal;
 use model::Reply;
-use model::Shared;
 use numbers::reals;
 use registers::Place;
 
 // 1. SWNo at most $11F?
-fn within(p: Place) -> bool
-    ensures { λ b. ⌜ b ≡ question1 (placed p) ⌝ }
+fn within(swno: u16) -> bool
+    ensures { λ b. ⌜ b ≡ question1 swno ⌝ }
 {
-    match p {
-        Place::Service(_) => true,
-        Place::Digital(_, _) => true,
-        Place::Common(_) => true,
-        Place::Unlisted => true,
-        Place::Beyond => false,
-    }
+    swno <= 0x11F
 }
 
 // 2. Register listed?
@@ -35,7 +28,6 @@ fn listed(p: Place) -> bool
         Place::Digital(_, _) => true,
         Place::Common(_) => true,
         Place::Unlisted => false,
-        Place::Beyond => false,
     }
 }
 
@@ -54,17 +46,17 @@ fn exact(p: Place, bytes: &[u8]) -> bool
 }
 
 // 6. On a write of a protected register, WriteEnable TRUE?
-fn enabled(s: Shared, p: Place) -> bool
-    ensures { λ b. ⌜ b ≡ question6 s (placed p) ⌝ }
+fn enabled(enable: bool, p: Place) -> bool
+    ensures { λ b. ⌜ b ≡ question6 enable (placed p) ⌝ }
 {
-    !registers::is_protected(registers::access(p)) | s.write_enable
+    !registers::is_protected(registers::access(p)) | enable
 }
 
-// Questions 1, 2 and 5, of a read into a lent buffer.
-pub fn read_reply(p: Place, lent: &[u8]) -> Reply
-    ensures { λ r. ⌜ r ≡ readReply (placed p) (now (lent .entry)) ⌝ }
+// Questions 1, 2 and 5, of a read into a lent buffer; p is the place of the SWNo.
+pub fn read_reply(swno: u16, p: Place, lent: &[u8]) -> Reply
+    ensures { λ r. ⌜ r ≡ readReply swno (placed p) (now (lent .entry)) ⌝ }
 {
-    if !within(p) {
+    if !within(swno) {
         return Reply::Refused(Refusal::Beyond);
     }
     if !listed(p) {
@@ -77,11 +69,11 @@ pub fn read_reply(p: Place, lent: &[u8]) -> Reply
     Reply::Done(size)
 }
 
-// Questions 1, 2, 3, 4, 6 and 7, of a write.
-pub fn write_reply(s: Shared, p: Place, bytes: &[u8]) -> Reply
-    ensures { λ r. ⌜ r ≡ writeReply s (placed p) (now (bytes .entry)) ⌝ }
+// Questions 1, 2, 3, 4, 6 and 7, of a write; enable is WriteEnable.
+pub fn write_reply(enable: bool, swno: u16, p: Place, bytes: &[u8]) -> Reply
+    ensures { λ r. ⌜ r ≡ writeReply enable swno (placed p) (now (bytes .entry)) ⌝ }
 {
-    if !within(p) {
+    if !within(swno) {
         return Reply::Refused(Refusal::Beyond);
     }
     if !listed(p) {
@@ -91,7 +83,7 @@ pub fn write_reply(s: Shared, p: Place, bytes: &[u8]) -> Reply
         return Reply::Refused(Refusal::NotWritable);
     }
     let sized = exact(p, bytes);
-    let open = enabled(s, p);
+    let open = enabled(enable, p);
     if !sized {
         return Reply::Refused(Refusal::WrongLength);
     }
@@ -106,7 +98,7 @@ pub fn write_reply(s: Shared, p: Place, bytes: &[u8]) -> Reply
 
 // 8. Channel 1 to 16?
 fn is_digital(k: u8) -> bool
-    ensures { λ b. ⌜ b ≡ digital k ⌝ }
+    ensures { λ b. ⌜ b ≡ isDigital k ⌝ }
 {
     (1 <= k) & (k <= 16)
 }

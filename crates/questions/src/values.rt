@@ -69,6 +69,5 @@ pub(crate) fn allowed(p: Place, bytes: &[u8]) -> bool
         Place::Digital(_, r) => digital_allowed(r, bytes),
         Place::Common(_) => true,
         Place::Unlisted => true,
-        Place::Beyond => true,
     }
 }

@@ -2,22 +2,8 @@
 use Prim.Native.Nat.{ℕ, _-_}
 use Rattle.model.specs.declared.Channel.{Channel}
 use Rattle.model.specs.declared.Service.{Service}
-use Rattle.model.specs.declared.ServiceRegister.{ServiceRegister}
-use Rattle.model.specs.declared.ServiceRegister.the-variants.{Highest, Reset, FreeRunTimer, WDTimer, ModuleConfig, WDPreset, WriteEnable, CommonError}
-use Rattle.model.specs.Errors.{serviceAcknowledged}
-use Rattle.model.specs.Registers.{Place, service, digital, common, unlisted, beyond}
-use Rattle.model.specs.Reads.{digitalRead}
-
--- "Reading .. CommonError gives the old bytes, then that His := its Act"
-abbrev pub serviceReadOf : ServiceRegister → Service → Service
-serviceReadOf Highest v = v
-serviceReadOf Reset v = v
-serviceReadOf FreeRunTimer v = v
-serviceReadOf WDTimer v = v
-serviceReadOf ModuleConfig v = v
-serviceReadOf WDPreset v = v
-serviceReadOf WriteEnable v = v
-serviceReadOf CommonError v = serviceAcknowledged v
+use Rattle.model.specs.Registers.{Place, service, digital, common, unlisted}
+use Rattle.model.specs.Reads.{serviceRead, digitalRead}
 
 -- the place's channel, counted from 0. A register of no digital channel has that of channel 1, and leaves it
 abbrev pub slotOf : Place → ℕ
@@ -25,18 +11,15 @@ slotOf (service r) = 0
 slotOf (digital k r) = k - 1
 slotOf (common r) = 0
 slotOf unlisted = 0
-slotOf beyond = 0
 
 abbrev pub serviceLeft : Place → Service → Service
-serviceLeft (service r) v = serviceReadOf r v
+serviceLeft (service r) v = serviceRead r v
 serviceLeft (digital k r) v = v
 serviceLeft (common r) v = v
 serviceLeft unlisted v = v
-serviceLeft beyond v = v
 
 abbrev pub channelLeft : Place → Channel → Channel
 channelLeft (service r) ch = ch
 channelLeft (digital k r) ch = digitalRead r ch
 channelLeft (common r) ch = ch
 channelLeft unlisted ch = ch
-channelLeft beyond ch = ch

@@ -6,12 +6,9 @@ use Rattle.model.specs.declared.Channel.{Channel}
 use Rattle.model.specs.declared.Service.{Service}
 use Rattle.model.specs.declared.Shared.{Shared}
 use Rattle.model.specs.declared.Module.{Module}
-use Rattle.model.specs.declared.Reply.{Reply}
-use Rattle.model.specs.declared.Reply.the-variants.{Done, Refused}
 use Rattle.model.specs.State.{nothing}
-use Rattle.model.specs.Registers.{Place, place}
-use Rattle.model.specs.Reads.{bytesRead, afterRead}
-use Rattle.model.specs.Calls.{overwritten}
+use Rattle.model.specs.Registers.{place}
+use Rattle.model.specs.Calls.{readLeaves, readFills}
 use Rattle.model.specs.Questions.{readReply}
 use Rattle.errors.specs.Words.{wordsOf}
 use Rattle.reads.specs.declared.Reading.{Reading}
@@ -24,23 +21,13 @@ boxOf s v cs = record { shared = s; service = v; channels = cs }
 abbrev pub putBack : Service → ℕ → Channel → Module → Module
 putBack v i ch m = record { shared = m .shared; service = v; channels = set (m .channels) i ch }
 
--- the box after an accepted read, and after a refused one
-abbrev pub leaves : Reply → Place → Module → Module
-leaves (Done n) p m = afterRead p m
-leaves (Refused r) p m = m
-
--- the lent buffer: "a refused call changes no buffer", and "bytes past an answer are unchanged"
-abbrev pub fills : Reply → Place → Module → List ℕ → List ℕ
-fills (Done n) p m lent = overwritten (bytesRead p m) lent
-fills (Refused r) p m lent = lent
-
 -- of the box that it leaves, the service record and the place's channel; `putBack` of them is that box (proofs/Back.antt)
 unfoldable pub readingOf : Module → ℕ → List ℕ → Reading
 readingOf m n lent =
-    let r = readReply (place n) lent in
-    let after = leaves r (place n) m in
+    let r = readReply n (place n) lent in
+    let after = readLeaves r (place n) m in
     let i = slotOf (place n) in
     record { reply = r; service = after .service; at = i; channel = getD (after .channels) i nothing; words = wordsOf (m .channels) }
 
 unfoldable pub bufferOf : Module → ℕ → List ℕ → List ℕ
-bufferOf m n lent = fills (readReply (place n) lent) (place n) m lent
+bufferOf m n lent = readFills (readReply n (place n) lent) (place n) m lent

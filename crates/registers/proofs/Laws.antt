@@ -6,4 +6,4 @@ use Rattle.registers.specs.Places.{Within}
 
 -- a SWNo of a digital channel is of channel 1 to 16
 pub within : (n : ℕ) → Within (place n)
-within n = place-cases Within n tt tt (λ e r. tt) (λ e r. tt) (λ l h r e. (l, h))
+within n = place-cases Within n tt (λ e r q. tt) (λ e r q. tt) (λ l h r e. (l, h))

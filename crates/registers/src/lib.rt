@@ -10,13 +10,12 @@ use model::DigitalRegister;
 use model::ServiceRegister;
 
 // A register of the service channel, of a digital channel by its number, or of the common channel;
-// a number that its channel does not list; or a SWNo above $11F.
+// or none that is listed.
 pub enum Place {
     Service(ServiceRegister),
     Digital(u8, DigitalRegister),
     Common(CommonRegister),
     Unlisted,
-    Beyond,
 }
 
 fn service_place(n: u16) -> Place
@@ -74,9 +73,6 @@ fn common_place(n: u16) -> Place
 pub fn place_of(swno: u16) -> Place
     ensures { λ r. ⌜ placed r ≡ Table.place swno ⌝ }
 {
-    if 0x11F < swno {
-        return Place::Beyond;
-    }
     let channel = swno / 0x10;
     let register = swno % 0x10;
     if channel == 0 {
@@ -84,6 +80,9 @@ pub fn place_of(swno: u16) -> Place
     }
     if channel == 17 {
         return common_place(register);
+    }
+    if 16 < channel {
+        return Place::Unlisted;
     }
     digital_place(channel as u8, register)
 }
@@ -144,7 +143,6 @@ pub fn access(p: Place) -> Access
         Place::Digital(_, r) => digital_access(r),
         Place::Common(r) => common_access(r),
         Place::Unlisted => Access::ReadOnly,
-        Place::Beyond => Access::ReadOnly,
     }
 }
 
@@ -204,7 +202,6 @@ pub fn size(p: Place) -> usize
         Place::Digital(_, r) => digital_size(r),
         Place::Common(r) => common_size(r),
         Place::Unlisted => 0,
-        Place::Beyond => 0,
     }
 }
 

@@ -54,7 +54,6 @@ fn write_place(p: Place, b: &[u8], m: Module) -> Module
             next
         }
         Place::Unlisted => m,
-        Place::Beyond => m,
     }
 }
 
@@ -62,8 +61,7 @@ pub fn write(m: Module, swno: u16, b: &[u8]) -> Written
     ensures { λ r. ⌜ r ≡ writeOf m swno (now (b .entry)) ⌝ }
 {
     let p = registers::place_of(swno);
-    let shared = m.shared;
-    let reply = questions::write_reply(shared, p, b);
+    let reply = questions::write_reply(m.shared.write_enable, swno, p, b);
     match reply {
         Reply::Done(_) => Written {
             reply: reply,

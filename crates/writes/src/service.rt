@@ -5,7 +5,7 @@ ghost use mathlib.Core.Bool.{true};
 ghost use mathlib.Core.List.{map};
 ghost use lib.ListN.{length};
 ghost use Rattle.model.specs.Registers.{serviceRow};
-ghost use Rattle.model.specs.Writes.{setConfig, setPreset, setWriteEnable, serviceAllowed, sharedWritten, errorsWritten, everyWritten, serviceWritten};
+ghost use Rattle.model.specs.Writes.{setModuleConfig, setWDPreset, setWriteEnable, serviceAllowed, sharedWritten, errorsWritten, everyWritten, serviceWritten};
 use crate::reset;
 use crate::values;
 use counts::TimerCount;
@@ -17,7 +17,7 @@ use model::ServiceRegister;
 use model::Shared;
 
 fn set_config(g: Config, s: Shared) -> Shared
-    ensures { λ r. ⌜ r ≡ setConfig g s ⌝ }
+    ensures { λ r. ⌜ r ≡ setModuleConfig g s ⌝ }
 {
     let mut next = s;
     next.module_config = g;
@@ -25,7 +25,7 @@ fn set_config(g: Config, s: Shared) -> Shared
 }
 
 fn set_preset(t: TimerCount, s: Shared) -> Shared
-    ensures { λ r. ⌜ r ≡ setPreset t s ⌝ }
+    ensures { λ r. ⌜ r ≡ setWDPreset t s ⌝ }
 {
     let mut next = s;
     next.wd_preset = t;

@@ -8,10 +8,10 @@ use borrow.Author.Tests.{eqb-true}
 use Rattle.model.specs.declared.Refusal.{Refusal}
 use Rattle.model.specs.declared.Reply.{Reply}
 use Rattle.model.specs.declared.Reply.the-variants.{Done, Refused}
-use Rattle.model.specs.Image.{imageSize, sizeRight, decode, started, zeroSetup}
+use Rattle.model.specs.Image.{imageSize, sizeRight, decode, poweredUp, zeroSetup}
 use Rattle.model.specs.Questions.{powerUpReply}
-use Rattle.model.specs.Calls.{startedAs}
-use Rattle.image.specs.Answers.{isDone}
+use Rattle.model.specs.Calls.{poweredUpAs}
+use Rattle.model.specs.Questions.{accepted}
 
 -- an image of the right size has 717 bytes
 pub size-long : (img : List ℕ) → sizeRight img ≡ true → length img ≡ imageSize
@@ -19,20 +19,20 @@ unfolding sizeRight
 size-long img e = eqb-true (length img) imageSize e
 
 -- what is done passed its first question
-passed : (b : Bool) (x : Reply) (r : Refusal) → isDone (cond b x (Refused r)) ≡ true → b ≡ true
+passed : (b : Bool) (x : Reply) (r : Refusal) → accepted (cond b x (Refused r)) ≡ true → b ≡ true
 passed true x r e = refl
 passed false x r e = e
 
 -- so an accepted image has them too
-pub done-long : (img : List ℕ) → isDone (powerUpReply img) ≡ true → length img ≡ imageSize
+pub done-long : (img : List ℕ) → accepted (powerUpReply img) ≡ true → length img ≡ imageSize
 unfolding powerUpReply
 done-long img e = size-long img (passed (sizeRight img) _ _ e)
 
 -- the box by whether power-up is done
-pub started-done : (r : Reply) (img : List ℕ) → isDone r ≡ true → started (decode img) ≡ startedAs r img
+pub started-done : (r : Reply) (img : List ℕ) → accepted r ≡ true → poweredUp (decode img) ≡ poweredUpAs r img
 started-done (Done n) img e = refl
 started-done (Refused r) img e = absurd (false≢true e)
 
-pub started-refused : (r : Reply) (img : List ℕ) → isDone r ≡ false → started zeroSetup ≡ startedAs r img
+pub started-refused : (r : Reply) (img : List ℕ) → accepted r ≡ false → poweredUp zeroSetup ≡ poweredUpAs r img
 started-refused (Done n) img e = absurd (false≢true (sym e))
 started-refused (Refused r) img e = refl

@@ -3,7 +3,7 @@ use borrow.Author.Needs.{needs}
 use mathlib.Core.Path.{sym, ap, _∙_}
 use Rattle.model.specs.Questions.{powerUpReply}
 use Rattle.model.specs.Calls.{powerUp}
-use Rattle.image.specs.Answers.{isDone}
+use Rattle.model.specs.Questions.{accepted}
 use Rattle.image.proofs.Laws.Tests.{done-long, started-done, started-refused}
 use Rattle.image.proofs.power_up.Statement.{statement}
 use Rattle.image.proofs.power_up.Tie as tie
@@ -15,14 +15,14 @@ is-done-requires : tie.Need-is-done-requires
 is-done-requires c κs = search needs
 
 box-of-requires : tie.Need-box-of-requires
-box-of-requires c κs = done-long (c .before .before .before .before .args .img .now) (sym (c .before .is-done .ensures ∙ ap isDone (c .before .before .power-up-reply .ensures)) ∙ c .if1 .taken)
+box-of-requires c κs = done-long (c .before .before .before .before .args .img .now) (sym (c .before .is-done .ensures ∙ ap accepted (c .before .before .power-up-reply .ensures)) ∙ c .if1 .taken)
 
 returns : tie.Need-returns
 unfolding powerUp
 returns c =
     let img = c .before .before .before .before .before .args .img .now in
     let reply = c .before .before .before .power-up-reply .ensures in
-    let done = sym (c .before .before .is-done .ensures ∙ ap isDone reply) ∙ c .before .if1 .taken in
+    let done = sym (c .before .before .is-done .ensures ∙ ap accepted reply) ∙ c .before .if1 .taken in
     (c .box-of .ensures ∙ started-done (powerUpReply img) img done, reply)
 
 slice-aggregate-box-of : tie.Need-slice-aggregate-box-of
@@ -36,7 +36,7 @@ unfolding powerUp
 returns-2 c =
     let img = c .before .before .before .before .before .before .args .img .now in
     let reply = c .before .before .before .before .power-up-reply .ensures in
-    let refused = sym (c .before .before .before .is-done .ensures ∙ ap isDone reply) ∙ c .before .before .if1 .left in
+    let refused = sym (c .before .before .before .is-done .ensures ∙ ap accepted reply) ∙ c .before .before .if1 .left in
     (c .box-of2 .ensures ∙ started-refused (powerUpReply img) img refused, reply)
 
 pub power-up-spec : {M : Type 1} → statement M

@@ -14,7 +14,7 @@ use Rattle.model.specs.declared.Refusal.{Refusal}
 use Rattle.model.specs.declared.Reply.{Reply}
 use Rattle.model.specs.declared.Reply.the-variants.{Done, Refused}
 use Rattle.model.specs.State.{nothing, channelAt, withChannels}
-use Rattle.model.specs.Settings.{digital}
+use Rattle.model.specs.Settings.{isDigital}
 use Rattle.model.specs.Questions.{levelReply, currentReply}
 use Rattle.model.specs.Calls.{sampledAs}
 use Rattle.questions.proofs.Laws.Answers.{yes}
@@ -23,7 +23,7 @@ use Rattle.pd3120.specs.declared.Sampled.{Sampled}
 use Rattle.pd3120.specs.Answers.{answeredBy, sampledBy, sampleSlot, takenBy}
 
 -- ---- the place of its channel
-digital-is : (k : ℕ) → 1 ≤ k → k ≤ 16 → digital k ≡ true
+digital-is : (k : ℕ) → 1 ≤ k → k ≤ 16 → isDigital k ≡ true
 digital-is k l h = rw (le-leb 1 k l, le-leb k 16 h)
 
 pub slot-in : (k : ℕ) → 1 ≤ k → k ≤ 16 → k - 1 ≡ sampleSlot k
@@ -43,19 +43,19 @@ pub refused : (r q : Reply) (w : Refusal) (next ch : Channel) → r ≡ q → r 
 refused r q w next ch e d = rw (← e, d)
 
 -- an accepted sample is for channel 1 to 16
-pub level-digital : (k n : ℕ) → levelReply k ≡ Done n → digital k ≡ true
+pub level-digital : (k n : ℕ) → levelReply k ≡ Done n → isDigital k ≡ true
 unfolding levelReply
-level-digital k n e = yes (digital k) _ _ n e .0
+level-digital k n e = yes (isDigital k) _ _ n e .0
 
-pub current-digital : (k : ℕ) (x : Float) (n : ℕ) → currentReply k x ≡ Done n → digital k ≡ true
+pub current-digital : (k : ℕ) (x : Float) (n : ℕ) → currentReply k x ≡ Done n → isDigital k ≡ true
 unfolding currentReply
-current-digital k x n e = yes (digital k) _ _ n e .0
+current-digital k x n e = yes (isDigital k) _ _ n e .0
 
 -- ---- the channel at its place, and the box with what the sample makes of it put back there
 abbrev pub sampleAt : Module → ℕ → Channel
 sampleAt m k = getD (m .channels) (sampleSlot k) nothing
 
-pub put-back : (r : Reply) (k : ℕ) (f : Channel → Channel) (m : Module) → ((n : ℕ) → r ≡ Done n → digital k ≡ true)
+pub put-back : (r : Reply) (k : ℕ) (f : Channel → Channel) (m : Module) → ((n : ℕ) → r ≡ Done n → isDigital k ≡ true)
     → record { after = withChannels (set (m .channels) (sampleSlot k) (takenBy r (f (sampleAt m k)) (sampleAt m k) .after)) m; reply = takenBy r (f (sampleAt m k)) (sampleAt m k) .reply }
     ≡ sampledBy (sampledAs r k (f (channelAt m k)) m)
 put-back (Done n) k f m h = rw (h n refl)

@@ -10,7 +10,7 @@ use Rattle.model.specs.declared.Module.{Module}
 use Rattle.model.specs.declared.Reply.{Reply}
 use Rattle.model.specs.declared.Reply.the-variants.{Done as Accepted, Refused}
 use Rattle.model.specs.State.{nothing, channelAt, withChannels}
-use Rattle.model.specs.Settings.{digital}
+use Rattle.model.specs.Settings.{isDigital}
 use Rattle.model.specs.Channel.{takeLevel, takeCurrent}
 use Rattle.model.specs.Questions.{levelReply, currentReply, powerUpReply}
 use Rattle.model.specs.Calls.{read, level, current, Stepped, sampledAs, step, powerUp}
@@ -53,7 +53,7 @@ sample-code (Accepted n) k next ch put m = refl
 sample-code (Refused w) k next ch put m = refl
 
 -- the caller has the sample's channel put back at its place
-sample-left : (r : Reply) (k : ℕ) (f : Channel → Channel) (m : Module) → ((n : ℕ) → r ≡ Accepted n → digital k ≡ true) → (at : ℕ) (d : ChannelDone) → at ≡ sampleSlot k
+sample-left : (r : Reply) (k : ℕ) (f : Channel → Channel) (m : Module) → ((n : ℕ) → r ≡ Accepted n → isDigital k ≡ true) → (at : ℕ) (d : ChannelDone) → at ≡ sampleSlot k
     → d ≡ channelDone (takenBy r (f (getD (m .channels) at nothing)) (getD (m .channels) at nothing))
     → Left (sampledAs r k (f (channelAt m k)) m) (withChannels (set (m .channels) at (d .after)) m) (d .code)
 sample-left r k f m h at d e g =

@@ -33,12 +33,6 @@ enum-told c = search needs
 none-requires : tie.Need-none-requires
 none-requires c κs = search needs
 
-enum-told-2 : tie.Need-enum-told-2
-enum-told-2 c = search needs
-
-none-requires-2 : tie.Need-none-requires-2
-none-requires-2 c κs = search needs
-
 returns : tie.Need-returns
 unfolding bytesRead
 returns c =
@@ -67,10 +61,6 @@ returns-4 : tie.Need-returns-4
 unfolding bytesRead
 returns-4 c = let e = c .none .ensures in rw (c .before .enum-told .given .1) (e, held-size _ _ 0 e refl)
 
-returns-5 : tie.Need-returns-5
-unfolding bytesRead
-returns-5 c = let e = c .none2 .ensures in rw (c .before .enum-told2 .given .1) (e, held-size _ _ 0 e refl)
-
 pub place-bytes-spec : {M : Type 1} → statement M
 place-bytes-spec =
     tie.close
@@ -83,10 +73,7 @@ place-bytes-spec =
     common-bytes-requires
     enum-told
     none-requires
-    enum-told-2
-    none-requires-2
     returns
     returns-2
     returns-3
-    returns-4
-    returns-5)
+    returns-4)

@@ -8,13 +8,13 @@ use borrow.Author.Needs.{needs}
 use Rattle.model.specs.declared.Reply.{Reply}
 use Rattle.model.specs.State.{nothing}
 use Rattle.model.specs.Reads.{bytesRead}
-use Rattle.model.specs.Calls.{overwritten}
+use Rattle.model.specs.Calls.{overwritten, readLeaves, readFills}
 use Rattle.registers.specs.Places.{placed, Within}
 use Rattle.registers.proofs.Laws.{within}
 use Rattle.questions.proofs.Laws.Answers.{roomy}
 use Rattle.reads.specs.declared.buffer.RegisterBytes.{RegisterBytes}
 use Rattle.reads.specs.Left.{slotOf, channelLeft}
-use Rattle.reads.specs.Reading.{boxOf, leaves, fills}
+use Rattle.reads.specs.Reading.{boxOf}
 use Rattle.reads.proofs.Laws.Held.{held-bytes, fits}
 use Rattle.reads.proofs.Laws.Readings.{answered, buffered}
 use Rattle.reads.proofs.Back.{service-left, channel-left}
@@ -52,7 +52,7 @@ copy-out-requires c κs =
     let s = c .before .before .before .before .before .before .before .before .before .before .before .args in
     let p = placed (c .before .before .before .before .before .before .before .before .before .place-of .result) in
     let l = c .before .place-bytes .ensures .1 in
-    let room = roomy p (s .buf .now) _ (sym (c .before .before .before .before .before .before .before .read-reply .ensures) ∙ c .before .before .enum-told .given .1) in
+    let room = roomy (s .swno) p (s .buf .now) _ (sym (c .before .before .before .before .before .before .before .read-reply .ensures) ∙ c .before .before .enum-told .given .1) in
     (rw l (fits p), rw l room)
 
 service-left-requires : tie.Need-service-left-requires
@@ -82,13 +82,13 @@ returns c =
     let l : length (s .t3) ≡ 16 = search (needs, start .good .1 .1 .0) in
     let below = rw (← l) at (rw (i .ensures .0) at (i .ensures .1)) in (
       answered m (s .swno) lent p (w .result) e (w .ensures) _ (i .result) _ _
-          (c .before .service-left .ensures ∙ service-left p m ∙ ap (λ (r : Reply). leaves r p m .service) (sym d))
+          (c .before .service-left .ensures ∙ service-left p m ∙ ap (λ (r : Reply). readLeaves r p m .service) (sym d))
           (i .ensures .0)
-          (c .channel-left .ensures ∙ own ∙ channel-left p m below ∙ ap (λ (r : Reply). getD (leaves r p m .channels) (slotOf p) nothing) (sym d))
+          (c .channel-left .ensures ∙ own ∙ channel-left p m below ∙ ap (λ (r : Reply). getD (readLeaves r p m .channels) (slotOf p) nothing) (sym d))
           (c .before .before .before .before .before .before .before .before .before .before .before .words .ensures),
       buffered m (s .swno) lent p (w .result) e (w .ensures) _
           (c .before .before .before .before .copy-out .ensures ∙ ap (λ (t : RegisterBytes). overwritten (take (t .len) (t .bytes)) lent) (c .before .before .before .before .before .before .place-bytes .ensures .0)
-          ∙ ap (λ (bs : List ℕ). overwritten bs lent) (held-bytes (bytesRead p m)) ∙ ap (λ (r : Reply). fills r p m lent) (sym d)),
+          ∙ ap (λ (bs : List ℕ). overwritten bs lent) (held-bytes (bytesRead p m)) ∙ ap (λ (r : Reply). readFills r p m lent) (sym d)),
     )
 
 same-length-2 : tie.Need-same-length-2
@@ -106,11 +106,11 @@ returns-2 c =
     let d = c .enum-told2 .given .1 in
     let own = ap (λ (k : ℕ). getD (s .t3) k nothing) (i .ensures .0) in (
       answered m (s .swno) lent p (w .result) e (w .ensures) (s .v) (i .result) _ _
-          (ap (λ (r : Reply). leaves r p m .service) (sym d))
+          (ap (λ (r : Reply). readLeaves r p m .service) (sym d))
           (i .ensures .0)
-          (own ∙ ap (λ (r : Reply). getD (leaves r p m .channels) (slotOf p) nothing) (sym d))
+          (own ∙ ap (λ (r : Reply). getD (readLeaves r p m .channels) (slotOf p) nothing) (sym d))
           (c .before .before .before .before .words .ensures),
-      buffered m (s .swno) lent p (w .result) e (w .ensures) lent (ap (λ (r : Reply). fills r p m lent) (sym d)),
+      buffered m (s .swno) lent p (w .result) e (w .ensures) lent (ap (λ (r : Reply). readFills r p m lent) (sym d)),
     )
 
 pub read-spec : {M : Type 1} → statement M

@@ -24,9 +24,6 @@ common-size-requires c κs = search needs
 enum-told : tie.Need-enum-told
 enum-told c = search needs
 
-enum-told-2 : tie.Need-enum-told-2
-enum-told-2 c = search needs
-
 returns : tie.Need-returns
 returns c = search needs
 
@@ -39,9 +36,6 @@ returns-3 c = search needs
 returns-4 : tie.Need-returns-4
 returns-4 c = search needs
 
-returns-5 : tie.Need-returns-5
-returns-5 c = search needs
-
 pub size-spec : {M : Type 1} → statement M
 size-spec =
     tie.close
@@ -53,9 +47,7 @@ size-spec =
     enum-known-p-3
     common-size-requires
     enum-told
-    enum-told-2
     returns
     returns-2
     returns-3
-    returns-4
-    returns-5)
+    returns-4)

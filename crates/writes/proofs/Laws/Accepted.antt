@@ -10,8 +10,10 @@ use Rattle.model.specs.declared.CommonRegister.the-variants.{OutFlags, InFlags,
 use Rattle.model.specs.declared.Module.{Module}
 use Rattle.model.specs.declared.Reply.{Reply}
 use Rattle.model.specs.Registers.{Place, common, place, size}
+use Rattle.model.specs.State.{writeEnable}
 use Rattle.model.specs.Questions.{question3, writeReply}
-use Rattle.writes.specs.Accepted.{effect, writeOf}
+use Rattle.model.specs.Calls.{writeLeaves}
+use Rattle.writes.specs.Accepted.{writeOf}
 
 -- the common registers that can be written have two bytes
 pub two-bytes : (r : CommonRegister) (bs : List ℕ) → question3 (common r) ≡ true → length bs ≡ size (common r) → length bs ≡ 2
@@ -20,7 +22,7 @@ two-bytes InFlags bs q e = e
 two-bytes IOChError bs q e = let z : _≡_ {A = ℕ} 0 1 = cc in absurd (omega arith)
 two-bytes ChError bs q e = let z : _≡_ {A = ℕ} 0 1 = cc in absurd (omega arith)
 
-pub answered : (m : Module) (n : ℕ) (bs : List ℕ) (p : Place) (r : Reply) (after : Module) → p ≡ place n → r ≡ writeReply (m .shared) p bs → after ≡ effect r p bs m
+pub answered : (m : Module) (n : ℕ) (bs : List ℕ) (p : Place) (r : Reply) (after : Module) → p ≡ place n → r ≡ writeReply (writeEnable (m .shared)) n p bs → after ≡ writeLeaves r p bs m
     → record { reply = r; after = after } ≡ writeOf m n bs
 unfolding writeOf
 answered m n bs p r after e f g = rw (g, f, e)

@@ -4,7 +4,8 @@ use borrow.Author.Needs.{needs}
 use Rattle.model.specs.declared.Reply.{Reply}
 use Rattle.registers.specs.Places.{placed, Within}
 use Rattle.registers.proofs.Laws.{within}
-use Rattle.writes.specs.Accepted.{effect}
+use Rattle.model.specs.State.{writeEnable}
+use Rattle.model.specs.Calls.{writeLeaves}
 use Rattle.questions.proofs.Laws.Answers.{accepted}
 use Rattle.writes.proofs.Laws.Accepted.{answered}
 use Rattle.writes.proofs.write.Statement.{statement}
@@ -23,7 +24,7 @@ write-place-requires : tie.Need-write-place-requires
 write-place-requires c κs =
     let s = c .before .before .before .before .before .before .args in
     let place-is = c .before .before .before .before .place-of .ensures in
-    let a = accepted (s .m .shared) _ (s .b .now) _ (sym (c .before .before .write-reply .ensures) ∙ c .enum-told .given .1) in
+    let a = accepted (writeEnable (s .m .shared)) (s .swno) _ (s .b .now) _ (sym (c .before .before .write-reply .ensures) ∙ c .enum-told .given .1) in
     (subst Within (sym place-is) (within (s .swno)), a .0, a .1, a .2)
 
 enum-told-2 : tie.Need-enum-told-2
@@ -35,7 +36,7 @@ returns c =
     let w = c .before .before .before .write-reply in
     let p = placed (c .before .before .before .before .before .place-of .result) in
     answered (s .m) (s .swno) (s .b .now) p (w .result) (c .write-place .result) (c .before .before .before .before .before .place-of .ensures) (w .ensures)
-    (c .write-place .ensures ∙ ap (λ (r : Reply). effect r p (s .b .now) (s .m)) (sym (c .before .enum-told .given .1)))
+    (c .write-place .ensures ∙ ap (λ (r : Reply). writeLeaves r p (s .b .now) (s .m)) (sym (c .before .enum-told .given .1)))
 
 returns-2 : tie.Need-returns-2
 returns-2 c =
@@ -43,7 +44,7 @@ returns-2 c =
     let w = c .before .before .write-reply in
     let p = placed (c .before .before .before .before .place-of .result) in
     answered (s .m) (s .swno) (s .b .now) p (w .result) (s .m) (c .before .before .before .before .place-of .ensures) (w .ensures)
-    (ap (λ (r : Reply). effect r p (s .b .now) (s .m)) (sym (c .enum-told2 .given .1)))
+    (ap (λ (r : Reply). writeLeaves r p (s .b .now) (s .m)) (sym (c .enum-told2 .given .1)))
 
 pub write-spec : {M : Type 1} → statement M
 write-spec =

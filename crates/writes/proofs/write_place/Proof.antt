@@ -26,9 +26,6 @@ write-common-requires c κs = let a = rw (c .before .before .p3 .given .1) at (c
 enum-told : tie.Need-enum-told
 enum-told c = search needs
 
-enum-told-2 : tie.Need-enum-told-2
-enum-told-2 c = search needs
-
 returns : tie.Need-returns
 unfolding written
 returns c = simp (c .write-service .ensures, c .before .before .p .given .1)
@@ -45,10 +42,6 @@ returns-4 : tie.Need-returns-4
 unfolding written
 returns-4 c = simp (c .enum-told .given .1)
 
-returns-5 : tie.Need-returns-5
-unfolding written
-returns-5 c = simp (c .enum-told2 .given .1)
-
 pub write-place-spec : {M : Type 1} → statement M
 write-place-spec =
     tie.close
@@ -60,9 +53,7 @@ write-place-spec =
     enum-known-p-3
     write-common-requires
     enum-told
-    enum-told-2
     returns
     returns-2
     returns-3
-    returns-4
-    returns-5)
+    returns-4)

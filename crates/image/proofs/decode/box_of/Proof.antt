@@ -1,6 +1,6 @@
 -- `decode::box_of` meets its contract. Assumes nothing.
 use borrow.Author.Needs.{needs}
-use Rattle.model.specs.Image.{started, decode}
+use Rattle.model.specs.Image.{poweredUp, decode}
 use Rattle.image.proofs.Laws.Lists.{to-the-end}
 use Rattle.image.proofs.decode.box_of.Statement.{statement}
 use Rattle.image.proofs.decode.box_of.Tie as tie
@@ -42,7 +42,7 @@ channels-of-requires : tie.Need-channels-of-requires
 channels-of-requires c κs = search needs
 
 returns : tie.Need-returns
-unfolding started decode
+unfolding poweredUp decode
 returns c =
     let s = c .before .before .before .before .before .before .before in
     rw (c .channels-of .ensures, c .before .before .timer-of .ensures, c .before .before .before .before .config-from .ensures, to-the-end 10 (s .args .img .now))

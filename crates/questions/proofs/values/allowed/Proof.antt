@@ -21,9 +21,6 @@ enum-told c = search needs
 enum-told-2 : tie.Need-enum-told-2
 enum-told-2 c = search needs
 
-enum-told-3 : tie.Need-enum-told-3
-enum-told-3 c = search needs
-
 returns : tie.Need-returns
 returns c = simp (c .service-allowed .ensures, c .before .before .p .given .1)
 
@@ -36,9 +33,6 @@ returns-3 c = search needs
 returns-4 : tie.Need-returns-4
 returns-4 c = search needs
 
-returns-5 : tie.Need-returns-5
-returns-5 c = search needs
-
 pub allowed-spec : {M : Type 1} → statement M
 allowed-spec =
     tie.close
@@ -49,9 +43,7 @@ allowed-spec =
     digital-allowed-requires
     enum-told
     enum-told-2
-    enum-told-3
     returns
     returns-2
     returns-3
-    returns-4
-    returns-5)
+    returns-4)
