@@ -58,13 +58,17 @@ pub record Stepped : Type 0 where
   pub answer : Answer
   pub box : Module
 
+-- from a reply, whose case gives the number and the length; the buffer afterwards; DataError and GeneralError
+abbrev pub answerOf : Reply → List ℕ → Bool → Bool → Answer
+answerOf r buf d g = record { number = numberOf r; length = lengthOf r; buffer = buf; data-error = d; general-error = g }
+
 -- of a wire call; the two bits are taken of m
 abbrev pub wireAnswer : Reply → List ℕ → Module → Answer
-wireAnswer r buf m = record { number = numberOf r; length = lengthOf r; buffer = buf; data-error = dataError m; general-error = generalError m }
+wireAnswer r buf m = answerOf r buf (dataError m) (generalError m)
 
 -- of every other call
 abbrev pub plainAnswer : Reply → List ℕ → Answer
-plainAnswer r buf = record { number = numberOf r; length = lengthOf r; buffer = buf; data-error = false; general-error = false }
+plainAnswer r buf = answerOf r buf false false
 
 -- ---- Calls 4: a wire call
 -- it clears service Act bit 3 first

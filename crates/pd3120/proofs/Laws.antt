@@ -1,3 +1,4 @@
 pub mod Wire
 pub mod Samples
+pub mod Storing
 pub mod Bytes

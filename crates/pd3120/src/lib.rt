@@ -2,14 +2,9 @@
 // bytes of a wire call stand in slices beside it. No function asks anything of its caller.
 ghost use mathlib.Core.Path.{_≡_};
 ghost use mathlib.Core.Bool.{false};
-ghost use Prim.Native.Nat.{_<_};
-ghost use Rattle.model.specs.Questions.{storeReply};
-ghost use Rattle.model.specs.Tick.{ticked};
-ghost use Rattle.model.specs.Calls.{read, write, level, current, step, cleared, preset, stored};
-ghost use Rattle.model.specs.Registers.{place};
-ghost use Rattle.reads.specs.Left.{slotOf};
-ghost use Rattle.reads.specs.Reading.{putBack};
-ghost use Rattle.pd3120.specs.Answers.{answeredBy, changedBy, sampledBy, outputAt, requestOf, lentAfter, RecordBy, SharedBy, PoweredUp};
+ghost use mathlib.Core.List.{[]};
+ghost use Rattle.model.specs.Calls.{read, write, level, current, tick, step, cleared, watchdogPreset};
+ghost use Rattle.pd3120.specs.Answers.{stepOf, sampleOf, tickOf, ReadBy, outputAt, requestOf, answerBuffer, lentAfter, RecordBy, SharedBy, PoweredUp, StoredBy};
 
 pub mod replies;
 pub mod samples;
@@ -68,8 +63,7 @@ pub fn power_up(img: &[u8]) -> Started
 
 // The kept values, as the first 717 bytes of the buffer.
 pub fn store(m: Module, buf: &mut [u8]) -> Reply
-    ensures reply { λ r. ⌜ r ≡ storeReply (now (buf .entry)) ⌝ }
-    ensures buffer { λ r. ⌜ now (buf .exit) ≡ stored m (now (buf .entry)) ⌝ }
+    ensures { λ r. ⌜ StoredBy m (now (buf .entry)) r (now (buf .exit)) ⌝ }
 {
     image::store(m, buf)
 }
@@ -85,7 +79,7 @@ fn clear(v: Service) -> Service
 
 // And last sets WDTimer to WDPreset.
 fn preset_watchdog(s: Shared, v: Service) -> Service
-    ensures { λ r. ⌜ SharedBy preset s v r ⌝ }
+    ensures { λ r. ⌜ SharedBy watchdogPreset s v r ⌝ }
 {
     let preset = s.wd_preset;
     let mut next = v;
@@ -96,9 +90,7 @@ fn preset_watchdog(s: Shared, v: Service) -> Service
 // For a caller that holds the box in its own memory and puts the parts back itself. The two bits are
 // those before the acknowledgement.
 pub fn read_changes(m: Module, swno: u16, buf: &mut [u8]) -> Changed
-    ensures answer { λ r. ⌜ r ≡ changedBy (slotOf (place swno)) (step m (read swno (now (buf .entry)))) ⌝ }
-    ensures back { λ r. ⌜ (r .at < 16) × (putBack (r .service) (r .at) (r .channel) m ≡ step m (read swno (now (buf .entry))) .box) ⌝ }
-    ensures buffer { λ r. ⌜ now (buf .exit) ≡ step m (read swno (now (buf .entry))) .answer .buffer ⌝ }
+    ensures { λ r. ⌜ ReadBy m (read swno (now (buf .entry))) r (now (buf .exit)) ⌝ }
 {
     let shared = m.shared;
     let channels = m.channels;
@@ -119,8 +111,7 @@ pub fn read_changes(m: Module, swno: u16, buf: &mut [u8]) -> Changed
 }
 
 pub fn read(m: Module, swno: u16, buf: &mut [u8]) -> Answered
-    ensures answer { λ r. ⌜ r ≡ answeredBy (step m (read swno (now (buf .entry)))) ⌝ }
-    ensures buffer { λ r. ⌜ now (buf .exit) ≡ step m (read swno (now (buf .entry))) .answer .buffer ⌝ }
+    ensures { λ r. ⌜ stepOf r (now (buf .exit)) ≡ step m (read swno (now (buf .entry))) ⌝ }
 {
     let done = read_changes(m, swno, buf);
     let service = done.service;
@@ -140,7 +131,7 @@ pub fn read(m: Module, swno: u16, buf: &mut [u8]) -> Answered
 
 // The two bits are those after the effect.
 pub fn write(m: Module, swno: u16, bytes: &[u8]) -> Answered
-    ensures { λ r. ⌜ r ≡ answeredBy (step m (write swno (now (bytes .entry)))) ⌝ }
+    ensures { λ r. ⌜ stepOf r [] ≡ step m (write swno (now (bytes .entry))) ⌝ }
 {
     let ready = clear(m.service);
     let mut cleared = m;
@@ -163,7 +154,7 @@ pub fn write(m: Module, swno: u16, bytes: &[u8]) -> Answered
 }
 
 pub fn level(m: Module, channel: u8, on: bool) -> Sampled
-    ensures { λ r. ⌜ r ≡ sampledBy (step m (level channel on)) ⌝ }
+    ensures { λ r. ⌜ sampleOf r ≡ step m (level channel on) ⌝ }
 {
     let at = samples::slot(channel);
     let ch = m.channels[at];
@@ -180,7 +171,7 @@ pub fn level(m: Module, channel: u8, on: bool) -> Sampled
 }
 
 pub fn current(m: Module, channel: u8, amperes: f32) -> Sampled
-    ensures { λ r. ⌜ r ≡ sampledBy (step m (current channel amperes)) ⌝ }
+    ensures { λ r. ⌜ sampleOf r ≡ step m (current channel amperes) ⌝ }
 {
     let at = samples::slot(channel);
     let ch = m.channels[at];
@@ -197,7 +188,7 @@ pub fn current(m: Module, channel: u8, amperes: f32) -> Sampled
 }
 
 pub fn tick(m: Module) -> Module
-    ensures { λ r. ⌜ r ≡ ticked m ⌝ }
+    ensures { λ r. ⌜ tickOf r ≡ step m tick ⌝ }
 {
     ticks::tick(m)
 }
@@ -233,7 +224,7 @@ fn plain(s: Sampled) -> Answered
 
 // Any of the five calls: a write takes its bytes from written, a read lends lent.
 pub fn call(m: Module, c: Call, written: &[u8], lent: &mut [u8]) -> Answered
-    ensures answer { λ r. ⌜ r ≡ answeredBy (step m (requestOf c (now (written .entry)) (now (lent .entry)))) ⌝ }
+    ensures answer { λ r. ⌜ stepOf r (answerBuffer c (now (lent .exit))) ≡ step m (requestOf c (now (written .entry)) (now (lent .entry))) ⌝ }
     ensures buffer { λ r. ⌜ now (lent .exit) ≡ lentAfter c m (now (lent .entry)) ⌝ }
 {
     match c {

@@ -2,9 +2,8 @@
 // channel back itself.
 ghost use mathlib.Core.Path.{_≡_};
 ghost use Prim.Native.Nat.{_<_};
-ghost use Rattle.model.specs.Channel.{takeLevel, takeCurrent};
-ghost use Rattle.model.specs.Questions.{levelReply, currentReply};
-ghost use Rattle.pd3120.specs.Answers.{sampleSlot, takenBy};
+ghost use Rattle.model.specs.Calls.{level, current};
+ghost use Rattle.pd3120.specs.Answers.{sampleSlot, SampleBy};
 use model::Channel;
 use model::Reply;
 use model::Shared;
@@ -32,7 +31,7 @@ pub fn slot(channel: u8) -> usize
 
 // A level does not look at s; both samples have one shape.
 pub fn take_level(s: Shared, ch: Channel, channel: u8, on: bool) -> Taken
-    ensures { λ r. ⌜ r ≡ takenBy (levelReply channel) (takeLevel on ch) ch ⌝ }
+    ensures { λ r. ⌜ SampleBy (level channel on) s ch (sampleSlot channel) r ⌝ }
 {
     let reply = questions::level_reply(channel);
     match reply {
@@ -48,7 +47,7 @@ pub fn take_level(s: Shared, ch: Channel, channel: u8, on: bool) -> Taken
 }
 
 pub fn take_current(s: Shared, ch: Channel, channel: u8, amperes: f32) -> Taken
-    ensures { λ r. ⌜ r ≡ takenBy (currentReply channel amperes) (takeCurrent s amperes ch) ch ⌝ }
+    ensures { λ r. ⌜ SampleBy (current channel amperes) s ch (sampleSlot channel) r ⌝ }
 {
     let reply = questions::current_reply(channel, amperes);
     match reply {

@@ -1,6 +1,7 @@
 -- A sample put together. Assumes nothing.
-use mathlib.Core.Path.{_≡_, refl}
+use mathlib.Core.Path.{_≡_, refl, sym, ap, _∙_}
 use mathlib.Core.Bool.{true, false}
+use mathlib.Core.List.{[]}
 use Prim.Native.Nat.{ℕ, _-_, _<_, _≤_}
 use native.Mathlib.Omega.{arith}
 use lib.Dec.{leb}
@@ -16,11 +17,11 @@ use Rattle.model.specs.declared.Reply.the-variants.{Done, Refused}
 use Rattle.model.specs.State.{nothing, channelAt, withChannels}
 use Rattle.model.specs.Settings.{isDigital}
 use Rattle.model.specs.Questions.{levelReply, currentReply}
-use Rattle.model.specs.Calls.{sampledAs}
+use Rattle.model.specs.Calls.{Stepped, answerOf, sampledAs}
 use Rattle.questions.proofs.Laws.Answers.{yes}
 use Rattle.pd3120.specs.declared.Answered.{Answered}
 use Rattle.pd3120.specs.declared.Sampled.{Sampled}
-use Rattle.pd3120.specs.Answers.{answeredBy, sampledBy, sampleSlot, takenBy}
+use Rattle.pd3120.specs.Answers.{stepOf, sampleOf, sampleSlot}
 
 -- ---- the place of its channel
 digital-is : (k : ℕ) → 1 ≤ k → k ≤ 16 → isDigital k ≡ true
@@ -35,13 +36,6 @@ slot-below k l = rw (lt-leb 1 k l)
 pub slot-above : (k : ℕ) → 16 < k → 0 ≡ sampleSlot k
 slot-above k l = let e : leb 1 k ≡ true = le-leb 1 k (omega arith) in rw (e, lt-leb k 16 l)
 
--- ---- q is the model's reply, and r the code's
-pub done : (r q : Reply) (n : ℕ) (next ch left : Channel) → r ≡ q → r ≡ Done n → left ≡ next → record { after = left; reply = r } ≡ takenBy q next ch
-done r q n next ch left e d g = rw (g, ← e, d)
-
-pub refused : (r q : Reply) (w : Refusal) (next ch : Channel) → r ≡ q → r ≡ Refused w → record { after = ch; reply = r } ≡ takenBy q next ch
-refused r q w next ch e d = rw (← e, d)
-
 -- an accepted sample is for channel 1 to 16
 pub level-digital : (k n : ℕ) → levelReply k ≡ Done n → isDigital k ≡ true
 unfolding levelReply
@@ -51,22 +45,24 @@ pub current-digital : (k : ℕ) (x : Float) (n : ℕ) → currentReply k x ≡ D
 unfolding currentReply
 current-digital k x n e = yes (isDigital k) _ _ n e .0
 
--- ---- the channel at its place, and the box with what the sample makes of it put back there
-abbrev pub sampleAt : Module → ℕ → Channel
-sampleAt m k = getD (m .channels) (sampleSlot k) nothing
+-- ---- the box m with a channel put back at its place, and the answer, are the model's; q is the model's reply, and r the code's
+abbrev pub putBack : Reply → Channel → ℕ → Module → Stepped
+putBack r left k m = record { answer = answerOf r [] false false; box = withChannels (set (m .channels) (sampleSlot k) left) m }
 
-pub put-back : (r : Reply) (k : ℕ) (f : Channel → Channel) (m : Module) → ((n : ℕ) → r ≡ Done n → isDigital k ≡ true)
-    → record { after = withChannels (set (m .channels) (sampleSlot k) (takenBy r (f (sampleAt m k)) (sampleAt m k) .after)) m; reply = takenBy r (f (sampleAt m k)) (sampleAt m k) .reply }
-    ≡ sampledBy (sampledAs r k (f (channelAt m k)) m)
-put-back (Done n) k f m h = rw (h n refl)
-put-back (Refused w) k f m h = rw (set-getD (m .channels) (sampleSlot k) nothing)
+-- a sample that is done leaves what f makes of the channel
+pub done : (r q : Reply) (n k : ℕ) (f : Channel → Channel) (ch left : Channel) → r ≡ q → r ≡ Done n → ((n : ℕ) → q ≡ Done n → isDigital k ≡ true) → left ≡ f ch
+    → (m : Module) → getD (m .channels) (sampleSlot k) nothing ≡ ch → putBack r left k m ≡ sampledAs q k (f (channelAt m k)) m
+done r q n k f ch left e d h g m p =
+    let s : sampleSlot k ≡ k - 1 = rw (h n (sym e ∙ d)) in
+    let same : left ≡ f (channelAt m k) = g ∙ ap f (sym p ∙ ap (λ (i : ℕ). getD (m .channels) i nothing) s) in
+    rw (← e, d, s, same)
 
--- a sample among all calls answers no bits
-plain-cases : (r : Reply) (k : ℕ) (ch : Channel) (m : Module)
-    → record { after = sampledAs r k ch m .box; reply = sampledAs r k ch m .answer .reply; «data_error» = false; «general_error» = false } ≡ answeredBy (sampledAs r k ch m)
-plain-cases (Done n) k ch m = refl
-plain-cases (Refused w) k ch m = refl
+-- one that is refused leaves the channel
+pub refused : (r q : Reply) (w : Refusal) (k : ℕ) (ch x : Channel) → r ≡ q → r ≡ Refused w
+    → (m : Module) → getD (m .channels) (sampleSlot k) nothing ≡ ch → putBack r ch k m ≡ sampledAs q k x m
+refused r q w k ch x e d m p = rw (← e, d, ← p, set-getD (m .channels) (sampleSlot k) nothing)
 
-pub plain-answer : (r : Reply) (k : ℕ) (ch : Channel) (m : Module) (s : Sampled) (a : Answered) → s ≡ sampledBy (sampledAs r k ch m)
-    → a ≡ record { after = s .after; reply = s .reply; «data_error» = false; «general_error» = false } → a ≡ answeredBy (sampledAs r k ch m)
-plain-answer r k ch m s a e f = rw (f, e) (plain-cases r k ch m)
+-- a sample or a tick among all calls answers no bits
+pub plain-answer : (x : Stepped) (s : Sampled) (a : Answered) → sampleOf s ≡ x
+    → a ≡ record { after = s .after; reply = s .reply; «data_error» = false; «general_error» = false } → stepOf a [] ≡ x
+plain-answer x s a e f = ap (λ (r : Answered). stepOf r []) f ∙ e

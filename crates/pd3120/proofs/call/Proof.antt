@@ -1,10 +1,7 @@
 -- `call` meets its contract. Assumes nothing.
 use borrow.Author.Needs.{needs}
-use mathlib.Core.Path.{refl}
-use Rattle.model.specs.State.{channelAt}
-use Rattle.model.specs.Channel.{takeLevel, takeCurrent}
-use Rattle.model.specs.Questions.{levelReply, currentReply}
-use Rattle.model.specs.Calls.{step}
+use mathlib.Core.Path.{refl, ap}
+use Rattle.model.specs.Calls.{Stepped}
 use Rattle.pd3120.proofs.Laws.Samples.{plain-answer}
 use Rattle.pd3120.proofs.call.Statement.{statement}
 use Rattle.pd3120.proofs.call.Tie as tie
@@ -52,32 +49,19 @@ same-length : tie.Need-same-length
 same-length c = search needs
 
 returns : tie.Need-returns
-returns c = let e = c .before .before .read .ensures in rw (c .before .before .before .before .before .c .given .1) (e .0, e .1)
+returns c = let e = c .before .before .read .ensures in rw (c .before .before .before .before .before .c .given .1) (e, ap (λ (x : Stepped). x .answer .buffer) e)
 
 returns-2 : tie.Need-returns-2
 returns-2 c = rw (c .before .before .c2 .given .1) (c .write .ensures, refl)
 
 returns-3 : tie.Need-returns-3
-unfolding step
-returns-3 c =
-    let m = c .before .before .before .before .before .before .before .args .m in
-    let k = c .before .before .before .c3 .given .0 .0 in
-    let on = c .before .before .before .c3 .given .0 .1 .0 in
-    rw (c .before .before .before .c3 .given .1)
-    (plain-answer (levelReply k) k (takeLevel on (channelAt m k)) m (c .before .level .result) (c .plain .result) (c .before .level .ensures) (c .plain .ensures), refl)
+returns-3 c = rw (c .before .before .before .c3 .given .1) (plain-answer _ (c .before .level .result) (c .plain .result) (c .before .level .ensures) (c .plain .ensures), refl)
 
 returns-4 : tie.Need-returns-4
-unfolding step
-returns-4 c =
-    let m = c .before .before .before .before .before .before .before .args .m in
-    let k = c .before .before .before .c4 .given .0 .0 in
-    let x = c .before .before .before .c4 .given .0 .1 .0 in
-    rw (c .before .before .before .c4 .given .1)
-    (plain-answer (currentReply k x) k (takeCurrent (m .shared) x (channelAt m k)) m (c .before .current .result) (c .plain2 .result) (c .before .current .ensures) (c .plain2 .ensures), refl)
+returns-4 c = rw (c .before .before .before .c4 .given .1) (plain-answer _ (c .before .current .result) (c .plain2 .result) (c .before .current .ensures) (c .plain2 .ensures), refl)
 
 returns-5 : tie.Need-returns-5
-unfolding step
-returns-5 c = rw (c .before .before .enum-told .given .1) (simp (c .plain3 .ensures, c .before .tick .ensures), refl)
+returns-5 c = rw (c .before .before .enum-told .given .1) (plain-answer _ _ (c .plain3 .result) (c .before .tick .ensures) (c .plain3 .ensures), refl)
 
 pub call-spec : {M : Type 1} → statement M
 call-spec =

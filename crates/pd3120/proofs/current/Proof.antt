@@ -1,10 +1,9 @@
 -- `current` meets its contract. Assumes nothing.
 use borrow.Author.Needs.{needs}
-use Rattle.model.specs.declared.Channel.{Channel}
-use Rattle.model.specs.Channel.{takeCurrent}
-use Rattle.model.specs.Questions.{currentReply}
-use Rattle.model.specs.Calls.{step}
-use Rattle.pd3120.proofs.Laws.Samples.{current-digital, put-back}
+use mathlib.Core.Path.{refl, sym, ap}
+use Prim.Native.Nat.{ℕ}
+use lib.ListN.{getD}
+use Rattle.model.specs.State.{nothing}
 use Rattle.pd3120.proofs.current.Statement.{statement}
 use Rattle.pd3120.proofs.current.Tie as tie
 
@@ -27,11 +26,10 @@ element-set-from-left : tie.Need-element-set-from-left
 element-set-from-left c = search needs
 
 returns : tie.Need-returns
-unfolding step
 returns c =
     let s = c .before .before .before .before .before .args in
-    rw (c .before .take-current .ensures, c .before .before .before .before .slot .ensures .0)
-    (put-back (currentReply (s .channel) (s .amperes)) (s .channel) (λ (ch : Channel). takeCurrent (s .t1 .shared) (s .amperes) ch) (s .t1) (λ n e. current-digital (s .channel) (s .amperes) n e))
+    let at = c .before .before .before .before .slot in
+    c .before .take-current .ensures (s .t1) refl (ap (λ (i : ℕ). getD (s .t1 .channels) i nothing) (sym (at .ensures .0)))
 
 pub current-spec : {M : Type 1} → statement M
 current-spec = tie.close (tie.spec slot-requires mul-ch element-copy-out-ch take-current-requires mul-left element-set-from-left returns)

@@ -1,10 +1,9 @@
 -- `level` meets its contract. Assumes nothing.
 use borrow.Author.Needs.{needs}
-use Rattle.model.specs.declared.Channel.{Channel}
-use Rattle.model.specs.Channel.{takeLevel}
-use Rattle.model.specs.Questions.{levelReply}
-use Rattle.model.specs.Calls.{step}
-use Rattle.pd3120.proofs.Laws.Samples.{level-digital, put-back}
+use mathlib.Core.Path.{refl, sym, ap}
+use Prim.Native.Nat.{ℕ}
+use lib.ListN.{getD}
+use Rattle.model.specs.State.{nothing}
 use Rattle.pd3120.proofs.level.Statement.{statement}
 use Rattle.pd3120.proofs.level.Tie as tie
 
@@ -27,11 +26,10 @@ element-set-from-left : tie.Need-element-set-from-left
 element-set-from-left c = search needs
 
 returns : tie.Need-returns
-unfolding step
 returns c =
     let s = c .before .before .before .before .before .args in
-    rw (c .before .take-level .ensures, c .before .before .before .before .slot .ensures .0)
-    (put-back (levelReply (s .channel)) (s .channel) (λ (ch : Channel). takeLevel (s .on) ch) (s .t1) (λ n e. level-digital (s .channel) n e))
+    let at = c .before .before .before .before .slot in
+    c .before .take-level .ensures (s .t1) refl (ap (λ (i : ℕ). getD (s .t1 .channels) i nothing) (sym (at .ensures .0)))
 
 pub level-spec : {M : Type 1} → statement M
 level-spec = tie.close (tie.spec slot-requires mul-ch element-copy-out-ch take-level-requires mul-left element-set-from-left returns)

@@ -1,7 +1,12 @@
 -- `power_up` meets its contract. Assumes nothing.
 use borrow.Author.Needs.{needs}
 use mathlib.Core.Path.{sym, ap, subst, _∙_}
+use mathlib.Core.Bool.{false}
+use mathlib.Core.List.{[]}
 use Rattle.model.specs.declared.Module.{Module}
+use Rattle.model.specs.declared.Reply.{Reply}
+use Rattle.model.specs.Questions.{numberOf}
+use Rattle.model.specs.Calls.{answerOf, powerUpAnswer}
 use Rattle.model.specs.Image.{setupOf, encode}
 use Rattle.model.specs.TwoLists.{LearnsNothing}
 use Rattle.model.proofs.TwoLists.{two-lists}
@@ -14,14 +19,17 @@ power-up-requires : tie.Need-power-up-requires
 power-up-requires c κs = search needs
 
 returns : tie.Need-returns
+unfolding powerUpAnswer
 returns c =
     let img = c .before .before .before .args .img .now in
     let e = c .before .power-up .ensures in
+    let number = ap numberOf (e .1) in
     record {
-      module-is = e .0;
-      reply-is = e .1;
-      learns-nothing = λ ok. subst LearnsNothing (sym (e .0)) (two-lists img (sym (e .1) ∙ ok));
-      stored-again = λ ok. ap (λ (m : Module). encode (setupOf m)) (e .0) ∙ images .again img (are-bytes img (λ i. c .before .before .shared-slice-known .given i .fits)) (sym (e .1) ∙ ok);
+      answer-is = ap (λ (q : Reply). answerOf q [] false false) (e .1);
+      box-is = e .0;
+      learns-nothing = λ ok. subst LearnsNothing (sym (e .0)) (two-lists img (sym number ∙ ok));
+      stored-again = λ ok. ap (λ (m : Module). encode (setupOf m)) (e .0)
+          ∙ images .again img (are-bytes img (λ i. c .before .before .shared-slice-known .given i .fits)) (sym number ∙ ok);
     }
 
 pub power-up-spec : {M : Type 1} → statement M

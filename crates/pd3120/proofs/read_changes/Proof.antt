@@ -3,7 +3,7 @@ use mathlib.Core.Path.{_≡_, refl}
 use lib.ListN.{length, length-map}
 use borrow.Author.Needs.{needs}
 use Rattle.reads.specs.Reading.{boxOf}
-use Rattle.pd3120.proofs.Laws.Wire.{read-buffer, read-back, read-changed}
+use Rattle.pd3120.proofs.Laws.Wire.{read-by}
 use Rattle.pd3120.proofs.read_changes.Statement.{statement}
 use Rattle.pd3120.proofs.read_changes.Tie as tie
 
@@ -38,10 +38,8 @@ returns c =
     let f = r .ensures .0 in
     let w = c .before .before .preset-watchdog in
     let e = k .ensures m refl in
-    let g = w .ensures (boxOf (m .shared) (r .result .service) (m .channels)) refl refl in (
-      read-changed m n lent l (k .result) e (r .result) f (w .result) g _ _ (c .before .data-error .ensures) (c .general-error .ensures),
-      (read-back m n lent l (k .result) e (r .result) f (w .result) g, read-buffer m n lent l (k .result) e _ (r .ensures .1)),
-    )
+    let g = w .ensures (boxOf (m .shared) (r .result .service) (m .channels)) refl refl in
+    read-by m n lent l (k .result) e (r .result) f (w .result) g _ (r .ensures .1) _ _ (c .before .data-error .ensures) (c .general-error .ensures)
 
 pub read-changes-spec : {M : Type 1} → statement M
 read-changes-spec =

@@ -2,7 +2,7 @@
 use mathlib.Core.Path.{_≡_, refl}
 use lib.ListN.{length, length-map}
 use borrow.Author.Needs.{needs}
-use Rattle.model.specs.Calls.{preset}
+use Rattle.model.specs.Calls.{watchdogPreset}
 use Rattle.reads.specs.Reading.{boxOf}
 use Rattle.pd3120.proofs.Laws.Wire.{cleared-box, write-answer}
 use Rattle.pd3120.proofs.write.Statement.{statement}
@@ -27,7 +27,7 @@ general-error-requires : tie.Need-general-error-requires
 general-error-requires c κs = search needs
 
 returns : tie.Need-returns
-unfolding preset
+unfolding watchdogPreset
 returns c =
     let s = c .before .before .before .before .before .before .before .before .before .before .before .args in
     let m = s .m in

@@ -10,7 +10,7 @@ is-protected-requires : tie.Need-is-protected-requires
 is-protected-requires c κs = search needs
 
 returns : tie.Need-returns
-returns c = simp (c .before .is-protected .ensures, c .before .before .access .ensures)
+returns c = simp (c .is-protected .ensures, c .before .access .ensures)
 
 pub enabled-spec : {M : Type 1} → statement M
 enabled-spec = tie.close (tie.spec access-requires is-protected-requires returns)

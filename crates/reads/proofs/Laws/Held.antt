@@ -11,7 +11,7 @@ use Rattle.model.specs.declared.CommonRegister.{CommonRegister}
 use Rattle.model.specs.declared.ServiceRegister.the-variants.{Highest, Reset, FreeRunTimer, WDTimer, ModuleConfig, WDPreset, WriteEnable, CommonError}
 use Rattle.model.specs.declared.DigitalRegister.the-variants.{FlagReg, OutTimer, Counter, OutCurrent, OperatingTime, UserBytes, FBTimer, FBPreset, OutPreset, ChConfig, MinCurrent, MaxCurrent, UserReals, Maintenance, ChError}
 use Rattle.model.specs.declared.CommonRegister.the-variants.{OutFlags, InFlags, IOChError, ChError as CommonChError}
-use Rattle.model.specs.Registers.{Place, service, digital, common, unlisted, beyond, serviceRow, digitalRow, commonRow, size}
+use Rattle.model.specs.Registers.{Place, service, digital, common, unlisted, serviceRow, digitalRow, commonRow, size}
 use Rattle.reads.specs.declared.buffer.RegisterBytes.{RegisterBytes}
 use Rattle.reads.specs.Held.{width, held}
 
@@ -63,7 +63,6 @@ fits (service r) = service-fits r
 fits (digital k r) = digital-fits r
 fits (common r) = common-fits r
 fits unlisted = omega arith
-fits beyond = omega arith
 
 -- bytes that are held have their length
 pub held-size : (b : RegisterBytes) (bs : List ℕ) (n : ℕ) → b ≡ held bs → length bs ≡ n → b .len ≡ n

@@ -22,8 +22,8 @@ enum-told c = search needs
 
 write-place-requires : tie.Need-write-place-requires
 write-place-requires c κs =
-    let s = c .before .before .before .before .before .before .args in
-    let place-is = c .before .before .before .before .place-of .ensures in
+    let s = c .before .before .before .before .before .args in
+    let place-is = c .before .before .before .place-of .ensures in
     let a = accepted (writeEnable (s .m .shared)) (s .swno) _ (s .b .now) _ (sym (c .before .before .write-reply .ensures) ∙ c .enum-told .given .1) in
     (subst Within (sym place-is) (within (s .swno)), a .0, a .1, a .2)
 
@@ -32,18 +32,18 @@ enum-told-2 c = search needs
 
 returns : tie.Need-returns
 returns c =
-    let s = c .before .before .before .before .before .before .before .args in
+    let s = c .before .before .before .before .before .before .args in
     let w = c .before .before .before .write-reply in
-    let p = placed (c .before .before .before .before .before .place-of .result) in
-    answered (s .m) (s .swno) (s .b .now) p (w .result) (c .write-place .result) (c .before .before .before .before .before .place-of .ensures) (w .ensures)
+    let p = placed (c .before .before .before .before .place-of .result) in
+    answered (s .m) (s .swno) (s .b .now) p (w .result) (c .write-place .result) (c .before .before .before .before .place-of .ensures) (w .ensures)
     (c .write-place .ensures ∙ ap (λ (r : Reply). writeLeaves r p (s .b .now) (s .m)) (sym (c .before .enum-told .given .1)))
 
 returns-2 : tie.Need-returns-2
 returns-2 c =
-    let s = c .before .before .before .before .before .before .args in
+    let s = c .before .before .before .before .before .args in
     let w = c .before .before .write-reply in
-    let p = placed (c .before .before .before .before .place-of .result) in
-    answered (s .m) (s .swno) (s .b .now) p (w .result) (s .m) (c .before .before .before .before .place-of .ensures) (w .ensures)
+    let p = placed (c .before .before .before .place-of .result) in
+    answered (s .m) (s .swno) (s .b .now) p (w .result) (s .m) (c .before .before .before .place-of .ensures) (w .ensures)
     (ap (λ (r : Reply). writeLeaves r p (s .b .now) (s .m)) (sym (c .enum-told2 .given .1)))
 
 pub write-spec : {M : Type 1} → statement M
