@@ -1,23 +1,25 @@
 -- An answer in one number, and what each exported call leaves in the caller's memory. Definitions only.
 use mathlib.Core.Path.{_≡_}
-use mathlib.Core.Bool.{Bool, false, cond}
+use mathlib.Core.Bool.{Bool, cond}
 use mathlib.Core.List.{List}
 use Prim.Native.Nat.{ℕ, _+_, _*_, _/_, _%_, _<_}
-use lib.ListN.{getD}
+use lib.ListN.{take, getD, set}
+use Rattle.model.specs.declared.Channel.{Channel}
 use Rattle.model.specs.declared.Module.{Module}
 use Rattle.model.specs.declared.Reply.{Reply}
-use Rattle.model.specs.State.{nothing}
-use Rattle.model.specs.Registers.{place}
-use Rattle.model.specs.Questions.{numberOf, lengthOf, powerUpReply, storeReply}
-use Rattle.model.specs.Calls.{read, tick, Answer, plainAnswer, Stepped, step, powerUp, stored}
-use Rattle.reads.specs.Left.{slotOf}
+use Rattle.model.specs.declared.Shared.{Shared}
+use Rattle.model.specs.State.{nothing, withChannels}
+use Rattle.model.specs.Questions.{numberOf, lengthOf}
+use Rattle.model.specs.Calls.{Request, read, tick, Answer, Stepped, step, powerUp, powerUpAnswer, storeAnswer}
+use Rattle.model.specs.Image.{setupOf, encode, imageSize}
+use Rattle.model.specs.Images.{Reached, PowersUpTo}
+use Rattle.model.specs.TwoLists.{LearnsNothing}
 use Rattle.reads.specs.Reading.{putBack}
-use Rattle.pd3120.specs.declared.samples.Taken.{Taken}
 use Rattle.pd3120_c.specs.declared.ChannelDone.{ChannelDone}
 use Rattle.pd3120_c.specs.declared.Done.{Done}
 use Rattle.pd3120_c.specs.declared.ReadDone.{ReadDone}
 
--- bits 0 to 7 the number, bits 8 to 23 the length, bit 24 DataError, bit 25 GeneralError
+-- ---- codes: bits 0 to 7 the number, bits 8 to 23 the length, bit 24 DataError, bit 25 GeneralError
 abbrev pub packed : ℕ → ℕ → Bool → Bool → ℕ
 packed number size data-error general-error = number + size * 256 + cond data-error 16777216 0 + cond general-error 33554432 0
 
@@ -32,28 +34,7 @@ abbrev pub replyCode : Reply → Bool → Bool → ℕ
 replyCode r data-error general-error = packed (numberOf r) (lengthOf r) data-error general-error
 
 abbrev pub answerCode : Answer → ℕ
-answerCode a = replyCode (a .reply) (a .data-error) (a .general-error)
-
--- the module that a call leaves, and the code of its answer
-abbrev pub doneBy : Stepped → Done
-doneBy s = record { after = s .box; code = answerCode (s .answer) }
-
--- the same of a sample's channel
-abbrev pub channelDone : Taken → ChannelDone
-channelDone t = record { after = t .after; code = replyCode (t .reply) false false }
-
--- the two parts of the module that a read may change, put back, are the module that it leaves; the code; and the lent buffer
-abbrev pub readDone : ℕ → Stepped → ReadDone
-readDone i s = record { service = s .box .service; channel = getD (s .box .channels) i nothing; at = i; code = answerCode (s .answer) }
-
-abbrev pub ReadBy : Module → ℕ → List ℕ → ReadDone → List ℕ → Type 0
-ReadBy m n lent d lent′ =
-    let s = step m (read n lent) in
-    (d ≡ readDone (slotOf (place n)) s) × ((d .at < 16) × ((putBack (d .service) (d .at) (d .channel) m ≡ s .box) × (lent′ ≡ s .answer .buffer)))
-
--- power-up answers its number alone
-abbrev pub started : List ℕ → Stepped
-started img = record { answer = plainAnswer (powerUpReply img); box = powerUp img }
+answerCode a = packed (a .number) (a .length) (a .data-error) (a .general-error)
 
 -- ---- what the caller has after a call: m′ in its module, code as the answer, lent′ in its buffer
 abbrev pub Left : Stepped → Module → ℕ → Type 0
@@ -66,6 +47,27 @@ LeftLent s m′ code lent′ = Left s m′ code × (lent′ ≡ s .answer .buffe
 abbrev pub Ticked : Module → Module → Type 0
 Ticked m m′ = m′ ≡ step m tick .box
 
--- storing answers its number and length, and changes the buffer alone
-abbrev pub Stored : Module → List ℕ → ℕ → List ℕ → Type 0
-Stored m lent code lent′ = (code ≡ replyCode (storeReply lent) false false) × (lent′ ≡ stored m lent)
+-- power-up, and of an accepted image demand 3 for the module that it leaves, and that it is stored again as the same bytes
+pub record PoweredUp (img : List ℕ) (m′ : Module) (code : ℕ) : Type 0 where
+  pub left : Left (record { answer = powerUpAnswer img; box = powerUp img }) m′ code
+  pub learns-nothing : powerUpAnswer img .number ≡ 0 → LearnsNothing m′
+  pub stored-again : powerUpAnswer img .number ≡ 0 → encode (setupOf m′) ≡ img
+
+-- storing changes the buffer alone; of a module that calls from a power-up reached, what is stored powers up to the kept values
+pub record Stored (m : Module) (lent : List ℕ) (code : ℕ) (lent′ : List ℕ) : Type 0 where
+  pub code-is : code ≡ answerCode (storeAnswer m lent)
+  pub buffer-is : lent′ ≡ storeAnswer m lent .buffer
+  pub powers-up : Reached m → storeAnswer m lent .number ≡ 0 → PowersUpTo m (take imageSize lent′)
+
+-- ---- what the calls beneath give
+-- the module that a write leaves, and the code of its answer
+abbrev pub doneBy : Stepped → Done
+doneBy s = record { after = s .box; code = answerCode (s .answer) }
+
+-- a sample's channel put back at place i of every module that has it there
+abbrev pub SampleLeft : Request → Shared → Channel → ℕ → ChannelDone → Type 0
+SampleLeft x s ch i d = (m : Module) → m .shared ≡ s → getD (m .channels) i nothing ≡ ch → Left (step m x) (withChannels (set (m .channels) i (d .after)) m) (d .code)
+
+-- the two parts of the module that a read may change, put back
+abbrev pub ReadLeft : Module → ℕ → List ℕ → ReadDone → List ℕ → Type 0
+ReadLeft m n lent d lent′ = (d .at < 16) × LeftLent (step m (read n lent)) (putBack (d .service) (d .at) (d .channel) m) (d .code) lent′

@@ -1,11 +1,9 @@
 // The calls of the library with their answers packed: what each exported function does with a copy
 // of the caller's module, or with a copy of the parts that it needs.
 ghost use mathlib.Core.Path.{_≡_};
-ghost use Rattle.model.specs.Calls.{write, step};
-ghost use Rattle.model.specs.Channel.{takeLevel, takeCurrent};
-ghost use Rattle.model.specs.Questions.{levelReply, currentReply};
-ghost use Rattle.pd3120.specs.Answers.{takenBy};
-ghost use Rattle.pd3120_c.specs.Codes.{started, doneBy, channelDone, ReadBy, Stored};
+ghost use Rattle.model.specs.Calls.{write, level, current, step};
+ghost use Rattle.pd3120.specs.Answers.{sampleSlot};
+ghost use Rattle.pd3120_c.specs.Codes.{doneBy, SampleLeft, ReadLeft, PoweredUp, Stored};
 use crate::ChannelDone;
 use crate::Done;
 use crate::ReadDone;
@@ -16,7 +14,7 @@ use model::Shared;
 use pd3120::samples;
 
 pub fn power_up(img: &[u8]) -> Done
-    ensures { λ r. ⌜ r ≡ doneBy (started (now (img .entry))) ⌝ }
+    ensures { λ r. ⌜ PoweredUp (now (img .entry)) (r .after) (r .code) ⌝ }
 {
     let started = pd3120::power_up(img);
     let after = started.after;
@@ -35,7 +33,7 @@ pub fn store(m: Module, buf: &mut [u8]) -> u32
 }
 
 pub fn read(m: Module, swno: u16, buf: &mut [u8]) -> ReadDone
-    ensures { λ r. ⌜ ReadBy m swno (now (buf .entry)) r (now (buf .exit)) ⌝ }
+    ensures { λ r. ⌜ ReadLeft m swno (now (buf .entry)) r (now (buf .exit)) ⌝ }
 {
     let done = pd3120::read_changes(m, swno, buf);
     let service = done.service;
@@ -62,7 +60,7 @@ pub fn write(m: Module, swno: u16, bytes: &[u8]) -> Done
 }
 
 pub fn level(s: Shared, ch: Channel, channel: u8, on: bool) -> ChannelDone
-    ensures { λ r. ⌜ r ≡ channelDone (takenBy (levelReply channel) (takeLevel on ch) ch) ⌝ }
+    ensures { λ r. ⌜ SampleLeft (level channel on) s ch (sampleSlot channel) r ⌝ }
 {
     let taken = samples::take_level(s, ch, channel, on);
     let after = taken.after;
@@ -74,7 +72,7 @@ pub fn level(s: Shared, ch: Channel, channel: u8, on: bool) -> ChannelDone
 }
 
 pub fn current(s: Shared, ch: Channel, channel: u8, amperes: f32) -> ChannelDone
-    ensures { λ r. ⌜ r ≡ channelDone (takenBy (currentReply channel amperes) (takeCurrent s amperes ch) ch) ⌝ }
+    ensures { λ r. ⌜ SampleLeft (current channel amperes) s ch (sampleSlot channel) r ⌝ }
 {
     let taken = samples::take_current(s, ch, channel, amperes);
     let after = taken.after;

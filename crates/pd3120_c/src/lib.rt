@@ -4,7 +4,7 @@
 ghost use mathlib.Core.Path.{_≡_};
 ghost use Rattle.model.specs.Calls.{read, write, level, current, step};
 ghost use Rattle.pd3120.specs.Answers.{outputAt};
-ghost use Rattle.pd3120_c.specs.Codes.{started, Left, LeftLent, Ticked, Stored};
+ghost use Rattle.pd3120_c.specs.Codes.{Left, LeftLent, Ticked, PoweredUp, Stored};
 
 mod calls;
 mod codes;
@@ -37,7 +37,7 @@ pub struct ReadDone {
 // A refused image gives the box of all-zero settings.
 #[no_mangle]
 pub extern "C" fn pd3120_power_up(m: &mut Module, image: &[u8]) -> u32
-    ensures { λ r. ⌜ Left (started (now (image .entry))) (now (m .exit)) r ⌝ }
+    ensures { λ r. ⌜ PoweredUp (now (image .entry)) (now (m .exit)) r ⌝ }
 {
     let done = calls::power_up(image);
     *m = done.after;

@@ -18,6 +18,7 @@ use Rattle.model.specs.State.{nothing, channelAt, withChannels}
 use Rattle.model.specs.Settings.{isDigital}
 use Rattle.model.specs.Questions.{levelReply, currentReply}
 use Rattle.model.specs.Calls.{Stepped, answerOf, sampledAs}
+use Rattle.model.proofs.Laws.Tests.{by-test, range}
 use Rattle.questions.proofs.Laws.Answers.{yes}
 use Rattle.pd3120.specs.declared.Answered.{Answered}
 use Rattle.pd3120.specs.declared.Sampled.{Sampled}
@@ -35,6 +36,9 @@ slot-below k l = rw (lt-leb 1 k l)
 
 pub slot-above : (k : ℕ) → 16 < k → 0 ≡ sampleSlot k
 slot-above k l = let e : leb 1 k ≡ true = le-leb 1 k (omega arith) in rw (e, lt-leb k 16 l)
+
+pub slot-fits : (k : ℕ) → sampleSlot k < 16
+slot-fits k = by-test (λ (i : ℕ). i < 16) (isDigital k) (λ e. let (p, q) = range k e in omega (arith, p, q)) (λ e. omega arith)
 
 -- an accepted sample is for channel 1 to 16
 pub level-digital : (k n : ℕ) → levelReply k ≡ Done n → isDigital k ≡ true

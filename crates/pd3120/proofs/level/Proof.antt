@@ -29,7 +29,7 @@ returns : tie.Need-returns
 returns c =
     let s = c .before .before .before .before .before .args in
     let at = c .before .before .before .before .slot in
-    c .before .take-level .ensures (s .t1) refl (ap (λ (i : ℕ). getD (s .t1 .channels) i nothing) (sym (at .ensures .0)))
+    rw (at .ensures .0) (c .before .take-level .ensures (s .t1) refl (ap (λ (i : ℕ). getD (s .t1 .channels) i nothing) (sym (at .ensures .0))))
 
 pub level-spec : {M : Type 1} → statement M
 level-spec = tie.close (tie.spec slot-requires mul-ch element-copy-out-ch take-level-requires mul-left element-set-from-left returns)

@@ -21,8 +21,8 @@ same-length c = search needs
 
 returns : tie.Need-returns
 returns c =
-    let r = c .before .store in
-    let s = c .before .before .before .args in
+    let r = c .before .before .store in
+    let s = c .before .before .before .before .before .args in
     let m = s .m in
     let lent = s .buf .now in
     let e = stored-answer m lent (r .result) _ (r .ensures .0) (r .ensures .1) in

@@ -1,27 +1,27 @@
 -- No answer is longer than an image: a reply's length is at most that of what would be done, whatever is asked first. Assumes nothing.
-use mathlib.Core.Path.{_≡_}
+use mathlib.Core.Path.{_≡_, refl, sym, ap, subst}
 use mathlib.Core.Bool.{Bool, true, false, cond}
 use mathlib.Core.List.{List, [], _∷_}
-use Prim.Native.Nat.{ℕ, _≤_}
+use Prim.Native.Nat.{ℕ, _≤_, _<_}
 use native.Mathlib.Omega.{arith}
-use lib.Ieee.{Float}
-use Rattle.model.specs.declared.Module.{Module}
+use lib.IntN.{pos}
+use lib.ListN.{replicate, getD-replicate}
+use Rattle.counts.specs.Counts.{timer}
 use Rattle.model.specs.declared.Channel.{Channel}
+use Rattle.model.specs.declared.Module.{Module}
 use Rattle.model.specs.declared.Refusal.{Refusal}
 use Rattle.model.specs.declared.Reply.{Reply}
 use Rattle.model.specs.declared.Reply.the-variants.{Done, Refused}
-use Rattle.model.specs.State.{channelAt}
-use Rattle.model.specs.Channel.{takeLevel, takeCurrent}
+use Rattle.model.specs.declared.Shared.{Shared}
+use Rattle.model.specs.State.{writeEnable, serviceOf, nothing}
 use Rattle.model.specs.Registers.{Place, place, size}
 use Rattle.model.specs.Questions.{Question, asked, lengthOf, readReply, writeReply, levelReply, currentReply, powerUpReply, storeReply}
 use Rattle.model.specs.Questions.{readQuestions, writeQuestions, levelQuestions, currentQuestions, powerUpQuestions, storeQuestions}
-use Rattle.model.specs.Image.{imageSize}
-use Rattle.model.specs.Calls.{Request, read, write, level, current, tick, cleared, readAs, writtenAs, sampledAs, step}
+use Rattle.model.specs.Image.{imageSize, noServiceBits}
+use Rattle.model.specs.Calls.{Request, read, write, level, current, tick, Answer, answerOf, Stepped, step, powerUpAnswer, storeAnswer}
 use Rattle.reads.proofs.Laws.Held.{fits}
-use Rattle.pd3120.specs.declared.Answered.{Answered}
-use Rattle.pd3120.specs.declared.Changed.{Changed}
 use Rattle.pd3120.specs.declared.samples.Taken.{Taken}
-use Rattle.pd3120.specs.Answers.{answeredBy, changedBy, takenBy}
+use Rattle.pd3120.specs.Answers.{SampleBy}
 
 answered : (b : Bool) (r : Reply) (w : Refusal) (n : ℕ) → lengthOf r ≤ n → lengthOf (cond b r (Refused w)) ≤ n
 answered true r w n h = h
@@ -31,62 +31,39 @@ asked-length : (qs : List Question) (n : ℕ) → lengthOf (asked qs (Done n)) �
 asked-length [] n = omega arith
 asked-length (q ∷ qs) n = answered (q .yes) (asked qs (Done n)) (q .refusal) n (asked-length qs n)
 
--- ---- a call's reply is that of its questions
-read-length : (r : Reply) (p : Place) (lent : List ℕ) (m : Module) → lengthOf r ≤ imageSize → lengthOf (readAs r p lent m .answer .reply) ≤ imageSize
-read-length (Done n) p lent m h = h
-read-length (Refused w) p lent m h = h
-
-write-length : (r : Reply) (p : Place) (bs : List ℕ) (m : Module) → lengthOf r ≤ imageSize → lengthOf (writtenAs r p bs m .answer .reply) ≤ imageSize
-write-length (Done n) p bs m h = h
-write-length (Refused w) p bs m h = h
-
-sample-length : (r : Reply) (k : ℕ) (ch : Channel) (m : Module) → lengthOf r ≤ imageSize → lengthOf (sampledAs r k ch m .answer .reply) ≤ imageSize
-sample-length (Done n) k ch m h = h
-sample-length (Refused w) k ch m h = h
-
 within : (n a : ℕ) → a ≤ n → n ≤ imageSize → a ≤ imageSize
 within n a h g = omega (arith, h, g)
 
 register-length : (p : Place) → size p ≤ imageSize
 register-length p = let h = fits p in omega (arith, h)
 
-pub step-length : (m : Module) (x : Request) → lengthOf (step m x .answer .reply) ≤ imageSize
+pub step-length : (m : Module) (x : Request) → step m x .answer .length ≤ imageSize
 unfolding step readReply writeReply levelReply currentReply
-step-length m (read n lent) =
-    let p = place n in
-    read-length (readReply p lent) p lent (cleared m) (within (size p) _ (asked-length (readQuestions p lent) (size p)) (register-length p))
-step-length m (write n bs) =
-    let p = place n in
-    write-length (writeReply (m .shared) p bs) p bs (cleared m) (within 0 _ (asked-length (writeQuestions (m .shared) p bs) 0) (omega arith))
-step-length m (level k b) =
-    sample-length (levelReply k) k (takeLevel b (channelAt m k)) m (within 0 _ (asked-length (levelQuestions k) 0) (omega arith))
-step-length m (current k x) =
-    sample-length (currentReply k x) k (takeCurrent (m .shared) x (channelAt m k)) m (within 0 _ (asked-length (currentQuestions k x) 0) (omega arith))
+step-length m (read n lent) = let p = place n in within (size p) _ (asked-length (readQuestions n p lent) (size p)) (register-length p)
+step-length m (write n bs) = within 0 _ (asked-length (writeQuestions (writeEnable (m .shared)) n (place n) bs) 0) (omega arith)
+step-length m (level k b) = within 0 _ (asked-length (levelQuestions k) 0) (omega arith)
+step-length m (current k x) = within 0 _ (asked-length (currentQuestions k x) 0) (omega arith)
 step-length m tick = omega arith
 
--- ---- of what the library's calls give
-pub read-changes-length : (m : Module) (n : ℕ) (lent : List ℕ) (i : ℕ) (c : Changed) → c ≡ changedBy i (step m (read n lent)) → lengthOf (c .reply) ≤ imageSize
-read-changes-length m n lent i c e = rw e (step-length m (read n lent))
+-- ---- of the replies that the library's calls give
+pub reply-length : (m : Module) (x : Request) (r : Reply) (buf : List ℕ) (d g : Bool) → answerOf r buf d g ≡ step m x .answer → lengthOf r ≤ imageSize
+reply-length m x r buf d g e = subst (λ (n : ℕ). n ≤ imageSize) (ap (λ (a : Answer). a .length) (sym e)) (step-length m x)
 
-pub wire-length : (m : Module) (x : Request) (a : Answered) → a ≡ answeredBy (step m x) → lengthOf (a .reply) ≤ imageSize
-wire-length m x a e = rw e (step-length m x)
+-- a sample's contract speaks of every module that has the channel: here is one
+someModule : Shared → Channel → Module
+someModule s ch = record { shared = s; service = serviceOf (timer (pos 0)) noServiceBits noServiceBits; channels = replicate 16 ch }
 
-taken-length : (r : Reply) (next ch : Channel) → lengthOf r ≤ imageSize → lengthOf (takenBy r next ch .reply) ≤ imageSize
-taken-length (Done n) next ch h = h
-taken-length (Refused w) next ch h = h
+pub sample-length : (x : Request) (s : Shared) (ch : Channel) (i : ℕ) (t : Taken) → i < 16 → SampleBy x s ch i t → lengthOf (t .reply) ≤ imageSize
+unfolding someModule
+sample-length x s ch i t l h =
+    let m = someModule s ch in
+    reply-length m x (t .reply) [] false false (ap (λ (z : Stepped). z .answer) (h m refl (getD-replicate 16 i ch nothing l)))
 
-pub level-length : (k : ℕ) (next ch : Channel) (t : Taken) → t ≡ takenBy (levelReply k) next ch → lengthOf (t .reply) ≤ imageSize
-unfolding levelReply
-level-length k next ch t e = rw e (taken-length (levelReply k) next ch (within 0 _ (asked-length (levelQuestions k) 0) (omega arith)))
+pub power-up-length : (img : List ℕ) (r : Reply) → answerOf r [] false false ≡ powerUpAnswer img → lengthOf r ≤ imageSize
+unfolding powerUpAnswer powerUpReply
+power-up-length img r e =
+    subst (λ (n : ℕ). n ≤ imageSize) (ap (λ (a : Answer). a .length) (sym e)) (within 0 _ (asked-length (powerUpQuestions img) 0) (omega arith))
 
-pub current-length : (k : ℕ) (x : Float) (next ch : Channel) (t : Taken) → t ≡ takenBy (currentReply k x) next ch → lengthOf (t .reply) ≤ imageSize
-unfolding currentReply
-current-length k x next ch t e = rw e (taken-length (currentReply k x) next ch (within 0 _ (asked-length (currentQuestions k x) 0) (omega arith)))
-
-pub power-up-length : (img : List ℕ) (r : Reply) → r ≡ powerUpReply img → lengthOf r ≤ imageSize
-unfolding powerUpReply
-power-up-length img r e = rw e (within 0 _ (asked-length (powerUpQuestions img) 0) (omega arith))
-
-pub store-length : (lent : List ℕ) (r : Reply) → r ≡ storeReply lent → lengthOf r ≤ imageSize
-unfolding storeReply
-store-length lent r e = rw e (asked-length (storeQuestions lent) imageSize)
+pub store-length : (m : Module) (lent : List ℕ) (r : Reply) (lent′ : List ℕ) → answerOf r lent′ false false ≡ storeAnswer m lent → lengthOf r ≤ imageSize
+unfolding storeAnswer storeReply
+store-length m lent r lent′ e = subst (λ (n : ℕ). n ≤ imageSize) (ap (λ (a : Answer). a .length) (sym e)) (asked-length (storeQuestions lent) imageSize)

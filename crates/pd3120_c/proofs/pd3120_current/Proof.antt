@@ -8,16 +8,14 @@ use Prim.Native.Nat.{ℕ, _<_}
 use Rattle.model.specs.declared.Channel.{Channel}
 use Rattle.model.specs.declared.Module.{Module}
 use Rattle.model.specs.declared.Shared.{Shared}
-use Rattle.model.specs.Channel.{takeCurrent}
-use Rattle.model.specs.Questions.{currentReply}
 use Rattle.model.specs.Calls.{current, step}
-use Rattle.pd3120.specs.Answers.{sampleSlot, takenBy}
+use Rattle.pd3120.specs.Answers.{sampleSlot}
 use Rattle.pd3120.proofs.samples.slot.Symbol as slot-def
 use Rattle.pd3120.proofs.samples.slot.Symbol.{name as #slot}
 use Rattle.pd3120.proofs.samples.slot.Met as slot-thm
 use Rattle.pd3120_c.specs.declared.ChannelDone.{ChannelDone}
-use Rattle.pd3120_c.specs.Codes.{channelDone, Left}
-use Rattle.pd3120_c.proofs.Laws.Answers.{current-left}
+use Rattle.pd3120_c.specs.Codes.{Left, SampleLeft}
+use Rattle.pd3120_c.proofs.Laws.Answers.{sample-left}
 use Rattle.pd3120_c.proofs.Walks.Types.{byte, real}
 use Rattle.pd3120_c.proofs.Walks.Box.{shared, service, channel, box, sampled}
 use Rattle.pd3120_c.proofs.Walks.Sample.{Found, Called, meets}
@@ -33,7 +31,7 @@ abbrev Finds : ℕ → ℕ → Type 0
 Finds k i = (i ≡ sampleSlot k) × (i < 16)
 
 abbrev Gives : Shared → Channel → ℕ → Float → ChannelDone → Type 0
-Gives s ch k x d = d ≡ channelDone (takenBy (currentReply k x) (takeCurrent s x ch) ch)
+Gives s ch k x d = SampleLeft (current k x) s ch (sampleSlot k) d
 
 abbrev Leaves : Module → ℕ → Float → Module → ℕ → Type 0
 Leaves m k x m′ code = Left (step m (current k x)) m′ code
@@ -44,7 +42,7 @@ pd3120-current-spec 𝓤 H 𝓜 𝓖 𝓡 =
     entered 𝓤 H (tripleOf 𝓤 H (𝓖 .A) exported.signature (exported.spec 𝓤 H (𝓖 .A) (𝓜 .mem) (𝓡 .run)))
     (tables 𝓤 H 𝓜 𝓡 code.env .C) (tables 𝓤 H 𝓜 𝓡 code.env .Λ) #export code.function (code.unfolded 𝓤 H 𝓜 𝓡)
     (meets shared service channel box byte real sampled 𝓤 H (𝓖 .A) (givenOf 𝓤 H 𝓜 𝓖) #slot #call Finds Gives Leaves (λ k i p. p .1)
-    (λ m k x i d p e. current-left m k x i d (p .0) e) (tablesOf 𝓤 H 𝓜 (tables 𝓤 H 𝓜 𝓡 code.env))
+    (λ m k x i d p e. sample-left (current k x) m k i d (p .0) e) (tablesOf 𝓤 H 𝓜 (tables 𝓤 H 𝓜 𝓡 code.env))
     (cited 𝓤 H (Found shared service channel box byte real sampled 𝓤 H (𝓖 .A) Finds) 𝓜 𝓡 code.env #slot slot-def.routine code.calls-pd3120·samples·slot
     (slot-thm.met 𝓤 H 𝓜 𝓖 𝓡))
     (cited 𝓤 H (Called shared service channel box byte real sampled 𝓤 H (𝓖 .A) Gives) 𝓜 𝓡 code.env #call call-def.routine code.calls-pd3120-c·calls·current

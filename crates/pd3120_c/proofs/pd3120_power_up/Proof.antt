@@ -2,14 +2,12 @@
 use contract.Running.{givenOf, tables, tablesOf}
 use denote.Triple.Spec.{tripleOf}
 use denote.Triple.Table.{entered, cited}
-use mathlib.Core.Path.{_≡_}
 use mathlib.Core.List.{List}
 use Prim.Native.Nat.{ℕ}
 use denote.Ref.{RefT}
 use Rattle.model.specs.declared.Module.{Module}
 use Rattle.pd3120_c.specs.declared.Done.{Done}
-use Rattle.pd3120_c.specs.Codes.{doneBy, started, Left}
-use Rattle.pd3120_c.proofs.Laws.Answers.{left}
+use Rattle.pd3120_c.specs.Codes.{PoweredUp}
 use Rattle.pd3120_c.proofs.Walks.Types.{bytes}
 use Rattle.pd3120_c.proofs.Walks.Box.{held, answer}
 use Rattle.pd3120_c.proofs.Walks.PowerUp.{Called, meets}
@@ -22,13 +20,13 @@ use Rattle.pd3120_c.proofs.pd3120_power_up.Statement as stated
 use Rattle.pd3120_c.proofs.pd3120_power_up.Code as code
 
 abbrev Gives : RefT (List ℕ) → Done → Type 0
-Gives img d = d ≡ doneBy (started (img .now))
+Gives img d = PoweredUp (img .now) (d .after) (d .code)
 
 abbrev Leaves : RefT (List ℕ) → Module → ℕ → Type 0
-Leaves img m′ code = Left (started (img .now)) m′ code
+Leaves img m′ code = PoweredUp (img .now) m′ code
 
 follows : (img : RefT (List ℕ)) (d : Done) → Gives img d → Leaves img (d .after) (d .code)
-follows img d e = left (started (img .now)) d e
+follows img d e = e
 
 pub pd3120-power-up-spec : {M : Type 1} → stated.statement M
 unfolding code.routine tablesOf

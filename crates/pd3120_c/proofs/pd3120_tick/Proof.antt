@@ -2,10 +2,10 @@
 use contract.Running.{givenOf, tables, tablesOf}
 use denote.Triple.Spec.{tripleOf}
 use denote.Triple.Table.{entered, cited}
-use mathlib.Core.Path.{_≡_}
+use mathlib.Core.Path.{_≡_, ap}
 use Rattle.model.specs.declared.Module.{Module}
-use Rattle.model.specs.Tick.{ticked}
-use Rattle.model.specs.Calls.{step}
+use Rattle.model.specs.Calls.{tick, Stepped, step}
+use Rattle.pd3120.specs.Answers.{tickOf}
 use Rattle.pd3120_c.specs.Codes.{Ticked}
 use Rattle.pd3120_c.proofs.Walks.Box.{held}
 use Rattle.pd3120_c.proofs.Walks.Tick.{Called, meets}
@@ -18,11 +18,10 @@ use Rattle.pd3120_c.proofs.pd3120_tick.Statement as stated
 use Rattle.pd3120_c.proofs.pd3120_tick.Code as code
 
 abbrev Gives : Module → Module → Type 0
-Gives m m′ = m′ ≡ ticked m
+Gives m m′ = tickOf m′ ≡ step m tick
 
 follows : (m m′ : Module) → Gives m m′ → Ticked m m′
-unfolding step
-follows m m′ e = e
+follows m m′ e = ap (λ (s : Stepped). s .box) e
 
 pub pd3120-tick-spec : {M : Type 1} → stated.statement M
 unfolding code.routine tablesOf

@@ -1,6 +1,8 @@
 -- `samples::take_current` meets its contract. Assumes nothing.
 use borrow.Author.Needs.{needs}
+use mathlib.Core.Path.{sym, ap, _∙_}
 use Rattle.model.specs.declared.Channel.{Channel}
+use Rattle.model.specs.declared.Shared.{Shared}
 use Rattle.model.specs.Channel.{takeCurrent}
 use Rattle.model.specs.Questions.{currentReply}
 use Rattle.model.specs.Calls.{step}
@@ -26,9 +28,9 @@ returns c =
     let s = c .before .before .before .before .args in
     let r = c .before .before .before .current-reply in
     let k = s .channel in
-    λ m e p. rw e
-    (done (r .result) (currentReply k (s .amperes)) _ k (λ (ch : Channel). takeCurrent (s .s) (s .amperes) ch) _ _ (r .ensures) (c .before .enum-told .given .1)
-    (current-digital k (s .amperes)) (c .take-current .ensures) m p)
+    λ m e p.
+    done (r .result) (currentReply k (s .amperes)) _ k (λ (ch : Channel). takeCurrent (m .shared) (s .amperes) ch) _ _ (r .ensures) (c .before .enum-told .given .1)
+    (current-digital k (s .amperes)) (c .take-current .ensures ∙ ap (λ (t : Shared). takeCurrent t (s .amperes) (s .ch)) (sym e)) m p
 
 returns-2 : tie.Need-returns-2
 unfolding step

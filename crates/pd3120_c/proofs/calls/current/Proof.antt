@@ -1,7 +1,10 @@
 -- `calls::current` meets its contract. Assumes nothing.
 use borrow.Author.Needs.{needs}
-use Rattle.pd3120_c.proofs.Laws.Answers.{taken-done}
-use Rattle.pd3120_c.proofs.Laws.Lengths.{current-length}
+use Rattle.model.specs.Calls.{current}
+use Rattle.pd3120.proofs.Laws.Samples.{slot-fits}
+use Rattle.pd3120.specs.Answers.{sampleSlot}
+use Rattle.pd3120_c.proofs.Laws.Answers.{sample-done}
+use Rattle.pd3120_c.proofs.Laws.Lengths.{sample-length}
 use Rattle.pd3120_c.proofs.calls.current.Statement.{statement}
 use Rattle.pd3120_c.proofs.calls.current.Tie as tie
 
@@ -9,10 +12,14 @@ take-current-requires : tie.Need-take-current-requires
 take-current-requires c κs = search needs
 
 pack-requires : tie.Need-pack-requires
-pack-requires c κs = let s = c .before .before .args in current-length (s .channel) (s .amperes) _ _ _ (c .before .take-current .ensures)
+pack-requires c κs =
+    let s = c .before .before .args in
+    sample-length (current (s .channel) (s .amperes)) (s .s) (s .ch) (sampleSlot (s .channel)) (c .before .take-current .result) (slot-fits (s .channel)) (c .before .take-current .ensures)
 
 returns : tie.Need-returns
-returns c = taken-done _ _ _ (c .before .before .take-current .ensures) (c .pack .ensures)
+returns c =
+    let s = c .before .before .before .args in
+    sample-done (current (s .channel) (s .amperes)) (s .s) (s .ch) (sampleSlot (s .channel)) (c .before .before .take-current .result) _ (c .before .before .take-current .ensures) (c .pack .ensures)
 
 pub current-spec : {M : Type 1} → statement M
 current-spec = tie.close (tie.spec take-current-requires pack-requires returns)
