@@ -81,19 +81,7 @@ fn step(kind: u8, z: i32, n: u32) {
     }
 }
 
-fn pair_signed(z: i16) {
-    answer::signed(z as i32);
-}
-
-// Two bytes as a number of 16 bits, in 32.
-fn pair(kind: u8, a: u8, b: u8) {
-    match kind {
-        b'u' => answer::unsigned(bytes::u16_of_bytes(a, b) as u32),
-        b'i' => pair_signed(bytes::i16_of_bytes(a, b)),
-        _ => answer::none(b'?'),
-    }
-}
-
+// A kind of two bytes is a number of 16 bits, in 32.
 pub fn convert(first: u8, second: u8, a: u8, b: u8, c: u8, d: u8) {
     let x = reals::of_bytes(a, b, c, d);
     let z = bytes::i32_of_bytes(a, b, c, d);
@@ -102,6 +90,7 @@ pub fn convert(first: u8, second: u8, a: u8, b: u8, c: u8, d: u8) {
         b'w' => write(second, x),
         b'r' => read(second, x, z, n),
         b's' => step(second, z, n),
-        _ => pair(first, c, d),
+        b'u' => answer::unsigned(bytes::u16_of_bytes(c, d) as u32),
+        _ => answer::none(b'?'),
     }
 }
