@@ -1,5 +1,4 @@
-// What a word becomes: the conversions of the crates under test, by the kinds that reference/vectors
-// names.
+// What a word becomes: the functions that the box runs, by the kinds that reference/vectors names.
 use crate::answer;
 use counts::OperatingCount;
 use counts::TimerCount;
@@ -7,47 +6,48 @@ use integers::bytes;
 use numbers::reals;
 use numbers::times;
 use numbers::written;
-use numbers::written::CurrentValue;
-use numbers::written::OperatingValue;
-use numbers::written::TimerValue;
 
-fn write_timer(kind: u8, x: f32) {
-    let v = if kind == b't' {
-        written::written_timer(x)
-    } else {
-        written::written_preset(x)
-    };
-    match v {
-        TimerValue::Count(t) => answer::signed(t.0),
-        TimerValue::Outside => answer::none(b'-'),
+fn write_timer(x: f32) {
+    if written::timer_allowed(x) {
+        answer::signed(times::timer_count(x).0);
+        return;
     }
+    answer::none(b'-');
+}
+
+fn write_preset(x: f32) {
+    if written::preset_allowed(x) {
+        answer::signed(times::timer_count(x).0);
+        return;
+    }
+    answer::none(b'-');
 }
 
 fn write_operating(x: f32) {
-    match written::written_operating(x) {
-        OperatingValue::Count(n) => answer::unsigned(n.0),
-        OperatingValue::Outside => answer::none(b'-'),
+    if written::operating_allowed(x) {
+        answer::unsigned(times::operating_count(x).0);
+        return;
     }
+    answer::none(b'-');
 }
 
-fn write_current(kind: u8, x: f32) {
-    let v = if kind == b'l' {
-        written::written_limit(x)
-    } else {
-        written::written_current(x)
-    };
-    match v {
-        CurrentValue::Amperes(y) => answer::real(y),
-        CurrentValue::Outside => answer::none(b'-'),
+// A current is kept as it is.
+fn write_current(allowed: bool, x: f32) {
+    if allowed {
+        answer::real(x);
+        return;
     }
+    answer::none(b'-');
 }
 
-// A Real written to a register.
+// A Real written to a register: question 7, then the value.
 fn write(kind: u8, x: f32) {
     match kind {
-        b't' | b'p' => write_timer(kind, x),
+        b't' => write_timer(x),
+        b'p' => write_preset(x),
         b'o' => write_operating(x),
-        b'l' | b'c' => write_current(kind, x),
+        b'l' => write_current(written::limit_allowed(x), x),
+        b'c' => write_current(reals::is_finite(x), x),
         _ => answer::none(b'?'),
     }
 }
