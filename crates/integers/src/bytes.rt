@@ -33,18 +33,6 @@ pub fn bytes_of_u32(n: u32) -> [u8; 4]
     ]
 }
 
-pub fn i16_of_bytes(a: u8, b: u8) -> i16
-    ensures { λ r. ⌜ r ≡ signedNumber (a ∷ b ∷ []) ⌝ }
-{
-    signed::i16_of_bits(u16_of_bytes(a, b))
-}
-
-pub fn bytes_of_i16(z: i16) -> [u8; 2]
-    ensures { λ r. ⌜ r ≡ signedBytes 2 z ⌝ }
-{
-    bytes_of_u16(signed::bits_of_i16(z))
-}
-
 pub fn i32_of_bytes(a: u8, b: u8, c: u8, d: u8) -> i32
     ensures { λ r. ⌜ r ≡ signedNumber (a ∷ b ∷ c ∷ d ∷ []) ⌝ }
 {

@@ -23,24 +23,6 @@ pub fn i32_of_bits(n: u32) -> i32
     !((!n) as i32)
 }
 
-pub fn bits_of_i16(z: i16) -> u16
-    ensures { λ r. ⌜ r ≡ modulo z (2 ^ 16) ⌝ }
-{
-    if z < 0 {
-        return !((!z) as u16);
-    }
-    z as u16
-}
-
-pub fn i16_of_bits(n: u16) -> i16
-    ensures { λ r. ⌜ r ≡ signedBits 16 n ⌝ }
-{
-    if n < 32768 {
-        return n as i16;
-    }
-    !((!n) as i16)
-}
-
 pub fn wrapping_add_i32(a: i32, b: i32) -> i32
     ensures { λ r. ⌜ r ≡ wrapped 32 (a +ℤ b) ⌝ }
 {

@@ -1,20 +1,21 @@
 // Reals to counts and back, once for both units: a second is 2^unit counts.
 ghost use mathlib.Core.Path.{_≡_};
-ghost use mathlib.Core.Bool.{cond};
+ghost use mathlib.Core.Bool.{true, cond};
 ghost use Prim.Native.Nat.{_^_, _≤_, _<_};
 ghost use lib.Dec.{T};
 ghost use lib.IntN.{pos, natAbs};
 ghost use lib.Ieee.{binary32, round};
 ghost use lib.Ieee.Nearest.{closest};
-ghost use Rattle.counts.specs.Counts.{timerUnits, operatingUnits};
+ghost use Rattle.counts.specs.Counts.{timer, timerUnits, operatingUnits};
 ghost use Rattle.numbers.specs.Reals.{whole, unitsOf, countOf, realOf, under};
+ghost use Rattle.numbers.specs.Written.{timerAllowed, operatingAllowed};
 use counts::OperatingCount;
 use counts::TimerCount;
 
 // Timer counts are in 1/2^8 s, operating counts in 1/2^3 s.
-pub(crate) const TIMER: u32 = 8;
+const TIMER: u32 = 8;
 
-pub(crate) const OPERATING: u32 = 3;
+const OPERATING: u32 = 3;
 
 // A Real's bits from the top: its sign, the exponent's field, and 23 digits below the leading one,
 // whose weight is also that of the field's lowest bit.
@@ -114,7 +115,7 @@ fn units_of(x: f32, unit: u32) -> u64
 }
 
 // The count of x, with its sign.
-pub(crate) fn count_of(x: f32, unit: u32) -> i64
+fn count_of(x: f32, unit: u32) -> i64
     requires { ⌜ (unit ≤ 8) × T (under (2 ^ unit) (2 ^ 32) x) ⌝ }
     ensures { λ r. ⌜ r ≡ countOf (2 ^ unit) x ⌝ }
 {
@@ -123,4 +124,20 @@ pub(crate) fn count_of(x: f32, unit: u32) -> i64
         return 0 - n;
     }
     n
+}
+
+// What a timer or a preset allows is asked before.
+pub fn timer_count(x: f32) -> TimerCount
+    requires { ⌜ timerAllowed x ≡ true ⌝ }
+    ensures { λ r. ⌜ r ≡ timer (countOf timerUnits x) ⌝ }
+{
+    TimerCount(count_of(x, TIMER) as i32)
+}
+
+// What OperatingTime allows is asked before. Its count has no sign.
+pub fn operating_count(x: f32) -> OperatingCount
+    requires { ⌜ operatingAllowed x ≡ true ⌝ }
+    ensures { λ r. ⌜ r ≡ record { 0 = unitsOf operatingUnits x } ⌝ }
+{
+    OperatingCount(count_of(x, OPERATING) as u32)
 }

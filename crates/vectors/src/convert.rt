@@ -1,5 +1,4 @@
-// What a word becomes: the conversions of the crates under test, by the kinds that reference/vectors
-// names.
+// What a word becomes: the functions that the box runs, by the kinds that reference/vectors names.
 use crate::answer;
 use counts::OperatingCount;
 use counts::TimerCount;
@@ -7,47 +6,48 @@ use integers::bytes;
 use numbers::reals;
 use numbers::times;
 use numbers::written;
-use numbers::written::CurrentValue;
-use numbers::written::OperatingValue;
-use numbers::written::TimerValue;
 
-fn write_timer(kind: u8, x: f32) {
-    let v = if kind == b't' {
-        written::written_timer(x)
-    } else {
-        written::written_preset(x)
-    };
-    match v {
-        TimerValue::Count(t) => answer::signed(t.0),
-        TimerValue::Outside => answer::none(b'-'),
+fn write_timer(x: f32) {
+    if written::timer_allowed(x) {
+        answer::signed(times::timer_count(x).0);
+        return;
     }
+    answer::none(b'-');
+}
+
+fn write_preset(x: f32) {
+    if written::preset_allowed(x) {
+        answer::signed(times::timer_count(x).0);
+        return;
+    }
+    answer::none(b'-');
 }
 
 fn write_operating(x: f32) {
-    match written::written_operating(x) {
-        OperatingValue::Count(n) => answer::unsigned(n.0),
-        OperatingValue::Outside => answer::none(b'-'),
+    if written::operating_allowed(x) {
+        answer::unsigned(times::operating_count(x).0);
+        return;
     }
+    answer::none(b'-');
 }
 
-fn write_current(kind: u8, x: f32) {
-    let v = if kind == b'l' {
-        written::written_limit(x)
-    } else {
-        written::written_current(x)
-    };
-    match v {
-        CurrentValue::Amperes(y) => answer::real(y),
-        CurrentValue::Outside => answer::none(b'-'),
+// A current is kept as it is.
+fn write_current(allowed: bool, x: f32) {
+    if allowed {
+        answer::real(x);
+        return;
     }
+    answer::none(b'-');
 }
 
-// A Real written to a register.
+// A Real written to a register: question 7, then the value.
 fn write(kind: u8, x: f32) {
     match kind {
-        b't' | b'p' => write_timer(kind, x),
+        b't' => write_timer(x),
+        b'p' => write_preset(x),
         b'o' => write_operating(x),
-        b'l' | b'c' => write_current(kind, x),
+        b'l' => write_current(written::limit_allowed(x), x),
+        b'c' => write_current(reals::is_finite(x), x),
         _ => answer::none(b'?'),
     }
 }
@@ -81,19 +81,7 @@ fn step(kind: u8, z: i32, n: u32) {
     }
 }
 
-fn pair_signed(z: i16) {
-    answer::signed(z as i32);
-}
-
-// Two bytes as a number of 16 bits, in 32.
-fn pair(kind: u8, a: u8, b: u8) {
-    match kind {
-        b'u' => answer::unsigned(bytes::u16_of_bytes(a, b) as u32),
-        b'i' => pair_signed(bytes::i16_of_bytes(a, b)),
-        _ => answer::none(b'?'),
-    }
-}
-
+// A kind of two bytes is a number of 16 bits, in 32.
 pub fn convert(first: u8, second: u8, a: u8, b: u8, c: u8, d: u8) {
     let x = reals::of_bytes(a, b, c, d);
     let z = bytes::i32_of_bytes(a, b, c, d);
@@ -102,6 +90,7 @@ pub fn convert(first: u8, second: u8, a: u8, b: u8, c: u8, d: u8) {
         b'w' => write(second, x),
         b'r' => read(second, x, z, n),
         b's' => step(second, z, n),
-        _ => pair(first, c, d),
+        b'u' => answer::unsigned(bytes::u16_of_bytes(c, d) as u32),
+        _ => answer::none(b'?'),
     }
 }

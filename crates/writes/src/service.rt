@@ -50,7 +50,7 @@ fn write_shared(r: ServiceRegister, b: &[u8], s: Shared) -> Shared
         ServiceRegister::FreeRunTimer => s,
         ServiceRegister::WDTimer => s,
         ServiceRegister::ModuleConfig => set_config(fields::config_from(b), s),
-        ServiceRegister::WDPreset => set_preset(values::preset_from(b), s),
+        ServiceRegister::WDPreset => set_preset(values::timer_from(b), s),
         ServiceRegister::WriteEnable => set_write_enable(b[0] == 1, s),
         ServiceRegister::CommonError => s,
     }

@@ -41,7 +41,7 @@ const fn kind(name: &'static str, result: fn(u32) -> Option<u32>, inputs: Inputs
 }
 
 /// An exponent field of 127 stands for values from 1 up to 2.
-pub static KINDS: [Kind; 16] = [
+pub static KINDS: [Kind; 15] = [
     kind("wt", results::timer_written, real(true, 117..=149)),
     kind("wp", results::preset_written, real(false, 117..=149)),
     kind(
@@ -61,5 +61,4 @@ pub static KINDS: [Kind; 16] = [
     kind("sc", results::counter_rise, Inputs::StepCount),
     kind("sp", results::operating_step, Inputs::StepCount),
     kind("u2", results::pair_unsigned, Inputs::BytePair),
-    kind("i2", results::pair_signed, Inputs::BytePair),
 ];

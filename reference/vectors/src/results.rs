@@ -107,10 +107,3 @@ pub fn pair_unsigned(pair: u32) -> Option<u32> {
     let (high, low) = (pair / 256 % 256, pair % 256);
     Some(high * 256 + low)
 }
-
-/// The same two bytes as a signed number, sign-extended.
-pub fn pair_signed(pair: u32) -> Option<u32> {
-    let (high, low) = (i64::from(pair / 256 % 256), i64::from(pair % 256));
-    let high = if high < 128 { high } else { high - 256 };
-    Some(word(high * 256 + low))
-}

@@ -31,7 +31,6 @@ fn machine_result(name: &str, word: u32) -> Option<u32> {
         "sc" => count.wrapping_add(1) as u32,
         "sp" => word.saturating_add(1),
         "u2" => u32::from(u16::from_be_bytes([high, low])),
-        "i2" => i32::from(i16::from_be_bytes([high, low])) as u32,
         _ => panic!("no kind {name}"),
     })
 }
@@ -148,5 +147,5 @@ fn lines_are_unique_and_each_kind_is_present() {
         assert!(lines.insert(input), "twice: {} {word:08x}", kind.name);
         names.insert(kind.name);
     }
-    assert_eq!(names.len(), 16);
+    assert_eq!(names.len(), 15);
 }

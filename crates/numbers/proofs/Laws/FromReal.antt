@@ -6,7 +6,7 @@ use mathlib.Core.Bool.{Bool, true, false, not, cond}
 use Prim.Native.Nat.{ℕ, zero, suc, _+_, _-_, _*_, _/_, _%_, _^_, _≤_, _<_, zero-le}
 use native.Mathlib.Nat.{le-trans, le-of-eq, lt-of-lt-of-le, lt-of-le-of-lt, lt-of-not-le, not-le-of-lt, mul-assoc, mul-one, one-mul, mul-right-comm, mul-le-mul-right, mul-le-mul-left, mul-lt-mul-of-pos-right, lt-of-mul-lt-mul-right, mod-lt, mod-eq-of-lt, le-add-right}
 use native.Mathlib.Omega.{arith}
-use lib.Dec.{T, leb, leb→le, nleb→lt, eqb, ltb, ltb→lt, lit<, lit≤}
+use lib.Dec.{T, leb, leb→le, nleb→lt, eqb, ltb→lt, lit<, lit≤}
 use lib.Pow.{pow-add, pow-pos, pow-mono, pow-lt, mod-mod-pow}
 use lib.Ieee.{Float, nan, inf, fin, binary32, up, down, odd, isNan, fits, toBits, ofBits, ofFields}
 use lib.Ieee.Bits.{ofBits-toBits}

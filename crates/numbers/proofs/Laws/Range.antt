@@ -1,7 +1,7 @@
 -- What the range tests tell of a Real: how large it is in units of 1 / per, and so that its count fits. Assumes nothing.
 use mathlib.Core.Path.{_≡_, refl, sym, ap, _∙_, subst}
 use mathlib.Core.Bool.{Bool, true, false, _&&_, _||_}
-use Prim.Native.Nat.{ℕ, zero, suc, _*_, _^_, _≤_, _<_}
+use Prim.Native.Nat.{ℕ, zero, suc, _+_, _*_, _^_, _≤_, _<_}
 use native.Mathlib.Nat.{le-trans, le-of-eq, lt-of-lt-of-le, lt-of-le-of-lt, one-mul, mul-one, zero-mul, mul-right-comm, mul-le-mul-right, mul-lt-mul-of-pos-right, mul-pos}
 use native.Mathlib.Omega.{arith}
 use lib.Dec.{T, ltb, eqb, ltb→lt, lt→ltb, eqb→eq, lit<, lit≤}
@@ -9,9 +9,12 @@ use lib.IntN.{ℤ, pos, negℤ}
 use lib.Pow.{pow-pos}
 use lib.Signed.{mag}
 use lib.Ieee.{Float, nan, inf, fin, binary32, up, down, le, lt, fits, ofInt}
+use lib.Ieee.Bits.{is-true}
 use lib.Ieee.Fits.{down-pos}
 use mir.Syntax.{w32}
 use mir.Val.{SFits}
+use mir.Facts.{yes-and}
+use borrow.Author.Tests.{lt-ltb}
 use Rattle.numbers.specs.Reals.{whole, unitsOf, countOf, under}
 use Rattle.numbers.specs.Written.{from, below, timerAllowed, presetAllowed, operatingAllowed}
 use Rattle.numbers.proofs.Laws.Whole.{whole-small, whole-up-to}
@@ -78,12 +81,6 @@ natural-count per (fin true m e) l =
     let z : whole (m * up e * per) (down e) ≡ 0 = ap (λ (y : ℕ). whole (y * per) (down e)) (none m e l) ∙ ap (λ (y : ℕ). whole y (down e)) (zero-mul per) ∙ whole-small 0 (down e) (down-pos e) in
     ap pos z ∙ sym (ap (λ (y : ℕ). negℤ (pos y)) z)
 
-under-more : (per a b : ℕ) (x : Float) → a ≤ b → T (under per a x) → T (under per b x)
-unfolding under
-under-more per a b nan l t = t
-under-more per a b (inf s) l t = t
-under-more per a b (fin s m e) l t = lt→ltb (m * up e * per) (b * down e) (lt-of-lt-of-le (ltb→lt (m * up e * per) (a * down e) t) (mul-le-mul-right (down e) l))
-
 -- ---- OutTimer and FBTimer: −8388608 ≤ x < 8388608
 wider : (a d : ℕ) → 0 < d → a ≤ 2147483648 * d → a < 4294967296 * d
 wider a d D l = omega arith
@@ -117,23 +114,31 @@ timer-fits (fin false m e) F t =
 timer-fits (fin true m e) F t = record { sfits = mag-minus (whole (m * up e * 256) (down e)) (whole-up-to (m * up e * 256) (down e) 2147483648 (down-pos e) (scaled-up-to 256 8388608 m e (lower 23 m e (both (from (negℤ (pos 8388608)) (fin true m e)) (below (pos 8388608) (fin true m e)) t .0)))) }
 
 -- ---- WDTimer and the presets: 0 ≤ x < 8388608
-module _ (x : Float) (t : T (presetAllowed x)) where
-  preset-half : T (under 256 2147483648 x)
-  unfolding from below ofInt
-  preset-half = natural-under 256 23 (lit< tt) x (both (from (pos 0) x) (below (pos 8388608) x) t .0) (both (from (pos 0) x) (below (pos 8388608) x) t .1)
+less : (a b : ℕ) (c : Bool) → a < b → T (ltb a b || c)
+less a b c h = subst (λ (t : Bool). T (t || c)) (sym (lt-ltb a b h)) tt
 
-  pub preset-under : T (under 256 4294967296 x)
-  preset-under = under-more 256 2147483648 4294967296 x (lit≤ tt) preset-half
+from-lower : (x : Float) → T (from (pos 0) x) → T (from (negℤ (pos 8388608)) x)
+unfolding from ofInt le lt
+from-lower nan l = l
+from-lower (inf true) l = l
+from-lower (inf false) l = tt
+from-lower (fin false m e) l = less 0 (1 * 2 ^ 23 * down e + m * up e * 1) _ (omega (arith, down-pos e))
+from-lower (fin true m e) l = less (m * up e * 1) (1 * 2 ^ 23 * down e) _ (omega (arith, none m e l, down-pos e))
+
+module _ (x : Float) (t : T (presetAllowed x)) where
+  -- what a preset allows, a timer does
+  timer-too : T (timerAllowed x)
+  timer-too = let h = both (from (pos 0) x) (below (pos 8388608) x) t in yes-and (from (negℤ (pos 8388608)) x) (below (pos 8388608) x) (from-lower x (h .0)) (h .1)
 
   pub preset-count : countOf 256 x ≡ pos (unitsOf 256 x)
   unfolding from ofInt
   preset-count = sym (natural-count 256 x (both (from (pos 0) x) (below (pos 8388608) x) t .0))
 
   pub preset-units : T (fits binary32 x) → unitsOf 256 x < 2147483648
-  preset-units F = units-31 x 8 F (lit≤ tt) preset-half preset-under
+  preset-units F = subst (SFits w32) preset-count (timer-fits x F timer-too) .sfits
 
-  pub preset-fits : T (fits binary32 x) → SFits w32 (countOf 256 x)
-  preset-fits F = subst (SFits w32) (sym preset-count) (record { sfits = preset-units F })
+pub preset-timer : (x : Float) → presetAllowed x ≡ true → timerAllowed x ≡ true
+preset-timer x e = is-true (timerAllowed x) (timer-too x (subst T (sym e) tt))
 
 -- ---- OperatingTime: 0 ≤ x < 536870912
 module _ (x : Float) (t : T (operatingAllowed x)) where

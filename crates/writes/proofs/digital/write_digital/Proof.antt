@@ -3,6 +3,7 @@ use borrow.Author.Needs.{needs}
 use mir.Facts.{toZ-ofZ}
 use mir.Syntax.{w32}
 use Rattle.model.specs.Writes.{digitalWritten}
+use Rattle.writes.proofs.Laws.Values.{preset-bytes}
 use Rattle.writes.proofs.digital.write_digital.Statement.{statement}
 use Rattle.writes.proofs.digital.write_digital.Tie as tie
 
@@ -72,8 +73,8 @@ set-feedback-timer-requires c κs = search needs
 enum-told-8 : tie.Need-enum-told-8
 enum-told-8 c = search needs
 
-preset-from-requires : tie.Need-preset-from-requires
-preset-from-requires c κs = rw (c .enum-told8 .given .1) at (c .before .before .before .pre)
+timer-from-requires-3 : tie.Need-timer-from-requires-3
+timer-from-requires-3 c κs = preset-bytes _ (rw (c .enum-told8 .given .1) at (c .before .before .before .pre))
 
 set-feedback-preset-requires : tie.Need-set-feedback-preset-requires
 set-feedback-preset-requires c κs = search needs
@@ -81,8 +82,8 @@ set-feedback-preset-requires c κs = search needs
 enum-told-9 : tie.Need-enum-told-9
 enum-told-9 c = search needs
 
-preset-from-requires-2 : tie.Need-preset-from-requires-2
-preset-from-requires-2 c κs = rw (c .enum-told9 .given .1) at (c .before .before .before .pre)
+timer-from-requires-4 : tie.Need-timer-from-requires-4
+timer-from-requires-4 c κs = preset-bytes _ (rw (c .enum-told9 .given .1) at (c .before .before .before .pre))
 
 set-out-preset-requires : tie.Need-set-out-preset-requires
 set-out-preset-requires c κs = search needs
@@ -165,11 +166,11 @@ returns-7 c = simp (c .set-feedback-timer .ensures, c .before .timer-from2 .ensu
 
 returns-8 : tie.Need-returns-8
 unfolding digitalWritten
-returns-8 c = simp (c .set-feedback-preset .ensures, c .before .preset-from .ensures, c .before .before .enum-told8 .given .1)
+returns-8 c = simp (c .set-feedback-preset .ensures, c .before .timer-from3 .ensures, c .before .before .enum-told8 .given .1)
 
 returns-9 : tie.Need-returns-9
 unfolding digitalWritten
-returns-9 c = simp (c .set-out-preset .ensures, c .before .preset-from2 .ensures, c .before .before .enum-told9 .given .1)
+returns-9 c = simp (c .set-out-preset .ensures, c .before .timer-from4 .ensures, c .before .before .enum-told9 .given .1)
 
 returns-10 : tie.Need-returns-10
 unfolding digitalWritten
@@ -221,10 +222,10 @@ write-digital-spec =
     timer-from-requires-2
     set-feedback-timer-requires
     enum-told-8
-    preset-from-requires
+    timer-from-requires-3
     set-feedback-preset-requires
     enum-told-9
-    preset-from-requires-2
+    timer-from-requires-4
     set-out-preset-requires
     enum-told-10
     config-from-requires

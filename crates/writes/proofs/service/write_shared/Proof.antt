@@ -1,6 +1,7 @@
 -- `service::write_shared` meets its contract. Assumes nothing.
 use borrow.Author.Needs.{needs}
 use Rattle.model.specs.Writes.{sharedWritten}
+use Rattle.writes.proofs.Laws.Values.{preset-bytes}
 use Rattle.writes.proofs.service.write_shared.Statement.{statement}
 use Rattle.writes.proofs.service.write_shared.Tie as tie
 
@@ -31,8 +32,8 @@ set-config-requires c κs = search needs
 enum-told-6 : tie.Need-enum-told-6
 enum-told-6 c = search needs
 
-preset-from-requires : tie.Need-preset-from-requires
-preset-from-requires c κs = rw (c .enum-told6 .given .1) at (c .before .before .before .pre)
+timer-from-requires : tie.Need-timer-from-requires
+timer-from-requires c κs = preset-bytes _ (rw (c .enum-told6 .given .1) at (c .before .before .before .pre))
 
 set-preset-requires : tie.Need-set-preset-requires
 set-preset-requires c κs = search needs
@@ -71,7 +72,7 @@ returns-5 c = simp (c .set-config .ensures, c .before .config-from .ensures, c .
 
 returns-6 : tie.Need-returns-6
 unfolding sharedWritten
-returns-6 c = simp (c .set-preset .ensures, c .before .preset-from .ensures, c .before .before .enum-told6 .given .1)
+returns-6 c = simp (c .set-preset .ensures, c .before .timer-from .ensures, c .before .before .enum-told6 .given .1)
 
 returns-7 : tie.Need-returns-7
 unfolding sharedWritten
@@ -94,7 +95,7 @@ write-shared-spec =
     config-from-requires
     set-config-requires
     enum-told-6
-    preset-from-requires
+    timer-from-requires
     set-preset-requires
     enum-told-7
     shared-slice-read-set-write-enable
