@@ -35,7 +35,7 @@
 extern "C" {
 #endif
 
-#define PD3120_MODULE_SIZE 1504 /* bytes */
+#define PD3120_MODULE_SIZE 1312 /* bytes */
 #define PD3120_MODULE_ALIGN 4   /* bytes */
 #define PD3120_IMAGE_SIZE 717   /* bytes of a setup image */
 

@@ -14,8 +14,8 @@
 
 use std::mem::MaybeUninit;
 
-/// A module has 1504 bytes, in words of the alignment that it asks for.
-const WORDS: usize = 376;
+/// A module has 1312 bytes, in words of the alignment that it asks for.
+const WORDS: usize = 328;
 
 /// The memory of a module. It begins as zeros, which are a value of every field
 /// of a module, and after that only the library writes it, so that it always

@@ -61,7 +61,7 @@ pub struct Answer {
 
 /// A PD 3120 channel box, powered up.
 ///
-/// It is a plain value of 1504 bytes: it can be moved, cloned and sent to
+/// It is a plain value of 1312 bytes: it can be moved, cloned and sent to
 /// another thread, and nothing of it is held elsewhere.
 #[derive(Clone)]
 pub struct Pd3120 {
