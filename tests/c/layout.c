@@ -185,7 +185,9 @@ static void errors(void)
     pd3120_level(&box, 1, true);
     pd3120_tick(&box);
     look();
-    check((first->errors.act & ~FEEDBACK_ERROR) == (OVERLOAD | EXTERNAL_SHORTCIR_ERROR | INTERNAL_SHORTCIR_ERROR), "the two short circuits");
+    check((first->errors.act & EXTERNAL_SHORTCIR_ERROR) != 0, "ExternalShortcirError");
+    check((first->errors.act & INTERNAL_SHORTCIR_ERROR) != 0, "InternalShortCirError");
+    check((first->errors.act & (UNDERLOAD | INTERNAL_DISCONNECTION)) == 0, "errors that are over");
     check(first->errors.his == 0x7F, "all seven errors");
 }
 
