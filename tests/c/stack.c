@@ -348,9 +348,9 @@ int main(void)
         every_call();
     }
 
-    printf("stack: the deepest of %u calls, in bytes, of %d\n", calls, PD3120_STACK);
+    printf("stack: the most bytes that a call took, of %u calls; PD3120_STACK is %d\n", calls, PD3120_STACK);
     for (int kind = 0; kind < KINDS; kind++) {
-        printf("  %-10s %5zu\n", names[kind], deepest[kind]);
+        printf("  %-8s %5zu\n", names[kind], deepest[kind]);
         check(deepest[kind] <= PD3120_STACK, "deeper than PD3120_STACK");
     }
     return failures != 0;

@@ -19,9 +19,11 @@ pub struct Effort {
     pub day_rounds: u32,
     /// Days that a box has behind it when its calls are timed again.
     pub days: usize,
+    /// Whether instructions are counted, which takes a while.
+    pub counted: bool,
 }
 
-/// ns a call on each side.
+/// ns, or instructions, a call on each side.
 pub struct Pair {
     pub library: f64,
     pub model: f64,
