@@ -63,9 +63,9 @@ fn heads(counted: bool) {
 fn table(effort: Effort, counted: bool) {
     let instructions = |row| counted.then(|| count::instructions(row)).flatten();
     heads(counted);
-    for (index, &(name, start, work)) in CASES.iter().enumerate() {
-        let ns = measure::single(start, work, effort);
-        row(name, &ns, instructions(index));
+    let singles = measure::singles(effort);
+    for (index, ((name, ..), ns)) in CASES.iter().zip(&singles).enumerate() {
+        row(name, ns, instructions(index));
     }
     let ns = measure::mixed(&day(effort.day), effort);
     let name = format!("mixed day, {} calls", effort.day);
