@@ -18,9 +18,10 @@ use std::mem::{align_of, size_of};
 use std::process::ExitCode;
 use std::time::Duration;
 
+/// The rounds are short, so that many fit between the turns of other programs.
 const FULL: Effort = Effort {
-    round: Duration::from_millis(5),
-    rounds: 40,
+    round: Duration::from_micros(500),
+    rounds: 400,
     day: 1_000_000,
     day_rounds: 7,
     days: 10,
@@ -29,8 +30,8 @@ const FULL: Effort = Effort {
 
 /// Only to see that it runs.
 const QUICK: Effort = Effort {
-    round: Duration::from_millis(1),
-    rounds: 5,
+    round: Duration::from_micros(500),
+    rounds: 10,
     day: 100_000,
     day_rounds: 3,
     days: 10,
