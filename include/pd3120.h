@@ -20,7 +20,7 @@
  * - a buffer is not null (checked; there it may be null where its length is 0);
  * - a buffer and the module have no byte in common (checked);
  * - no other thread uses the module or the buffer during the call;
- * - the stack has room: as built for x86-64, 5 KiB for any call.
+ * - the stack has room for PD3120_STACK bytes.
  */
 #ifndef PD3120_H
 #define PD3120_H
@@ -35,9 +35,17 @@
 extern "C" {
 #endif
 
-#define PD3120_MODULE_SIZE 1504 /* bytes */
+#define PD3120_MODULE_SIZE 1312 /* bytes */
 #define PD3120_MODULE_ALIGN 4   /* bytes */
 #define PD3120_IMAGE_SIZE 717   /* bytes of a setup image */
+
+/*
+ * Bytes of stack that no call goes beyond, counted from its return address down; the caller's own
+ * frame is not among them. They are of the archive that `./pd3120 lib` builds for x86-64, and
+ * tests/c/stack.c holds every kind of call to them. What an interrupt puts on the same stack comes
+ * on top, and so does a dynamic linker that looks for memcpy or memset at their first call.
+ */
+#define PD3120_STACK 4608
 
 /* A box. Only the library looks inside. */
 typedef struct pd3120_module {

@@ -1,77 +1,11 @@
 /*
- * The module's layout. The structs below are those of crates/model/src/lib.rt and
- * crates/counts/src/lib.rt, in C; their sizes and offsets must be the header's, and the library must
- * put its values where they say.
+ * The module's layout. The sizes and offsets of layout.h's structs must be the header's, and the
+ * library must put its values where they say.
  */
-#include "pd3120.h"
+#include "layout.h"
 
 #include <stdio.h>
 #include <string.h>
-
-struct config {
-    uint8_t enable, function, a, b;
-};
-
-struct flags {
-    bool out, input, control, feedback, internal;
-};
-
-struct timers {
-    int32_t out, feedback; /* TimerCount */
-};
-
-struct currents {
-    float out, min, max;
-};
-
-struct error_bits {
-    bool overload, underload, external, internal, disconnected, feedback, program;
-};
-
-struct errors {
-    struct error_bits act, his;
-};
-
-struct kept {
-    int32_t counter;
-    uint32_t operating; /* OperatingCount */
-    uint8_t user[4];
-};
-
-struct channel {
-    struct config config;
-    struct flags flags;
-    struct timers timers, presets;
-    struct currents currents;
-    struct errors errors;
-    int32_t counter;
-    uint32_t operating;
-    uint8_t user[4], reals[8], maintenance[4];
-    struct kept kept;
-};
-
-struct shared {
-    int32_t timer;
-    struct config config;
-    int32_t preset;
-    bool enabled;
-    uint32_t saving;
-};
-
-struct service_bits {
-    bool internal, external, watchdog;
-};
-
-struct service {
-    int32_t watchdog;
-    struct service_bits act, his;
-};
-
-struct module {
-    struct shared shared;
-    struct service service;
-    struct channel channels[16];
-};
 
 _Static_assert(sizeof(bool) == 1, "a bool has one byte");
 _Static_assert(sizeof(float) == 4, "a float has 32 bits");
@@ -79,24 +13,26 @@ _Static_assert(sizeof(float) == 4, "a float has 32 bits");
 #define AT(type, field, offset) _Static_assert(offsetof(struct type, field) == (offset), #type "." #field)
 AT(channel, config, 0);
 AT(channel, flags, 4);
-AT(channel, timers, 12);
-AT(channel, presets, 20);
+AT(channel, out_timer, 12);
+AT(channel, fb_timer, 16);
+AT(channel, out_preset, 20);
+AT(channel, fb_preset, 24);
 AT(channel, currents, 28);
 AT(channel, errors, 40);
-AT(channel, counter, 56);
-AT(channel, operating, 60);
-AT(channel, user, 64);
-AT(channel, reals, 68);
-AT(channel, maintenance, 76);
-AT(channel, kept, 80);
-_Static_assert(sizeof(struct channel) == 92, "channel");
-AT(shared, timer, 0);
-AT(shared, config, 4);
-AT(shared, preset, 8);
-AT(shared, enabled, 12);
-AT(shared, saving, 16);
+AT(channel, counter, 44);
+AT(channel, operating, 48);
+AT(channel, user, 52);
+AT(channel, reals, 56);
+AT(channel, maintenance, 64);
+AT(channel, kept, 68);
+_Static_assert(sizeof(struct channel) == 80, "channel");
+AT(shared, free_run_timer, 0);
+AT(shared, module_config, 4);
+AT(shared, wd_preset, 8);
+AT(shared, write_enable, 12);
+AT(shared, save_ticks, 16);
 _Static_assert(sizeof(struct shared) == 20, "shared");
-AT(service, watchdog, 0);
+AT(service, wd_timer, 0);
 AT(service, act, 4);
 AT(service, his, 7);
 _Static_assert(sizeof(struct service) == 12, "service");
@@ -144,28 +80,30 @@ static const uint8_t control[1] = {0x08};
 
 static void shared_and_service(void)
 {
-    static const uint8_t watchdog_off[4] = {5, 0x10, 6, 7};
+    static const uint8_t watchdog_off[4] = {5, 0x10, 6, 7}, reset[1] = {0xFF};
 
     pd3120_power_up(&box, yes, sizeof yes);
     look();
-    check(seen.service.his.internal, "service His bit 7");
-    check(!seen.service.his.external && !seen.service.his.watchdog, "service His bits 6 and 3");
+    check(seen.service.his.internal_reset, "service His bit 7");
+    check(!seen.service.his.external_reset && !seen.service.his.wd_run_out, "service His bits 6 and 3");
+    put(0x03, reset, 1);
+    check(!seen.service.his.internal_reset && seen.service.his.external_reset, "service His after a reset");
     for (int tick = 0; tick < 3; tick++)
         pd3120_tick(&box);
     look();
-    check(seen.shared.timer == 24, "FreeRunTimer");
-    check(seen.shared.saving == 3, "the ticks since the last save");
-    check(seen.service.act.watchdog && seen.service.his.watchdog, "service bit 3");
+    check(seen.shared.free_run_timer == 24, "FreeRunTimer");
+    check(seen.shared.save_ticks == 3, "the ticks since the last save");
+    check(seen.service.act.wd_run_out && seen.service.his.wd_run_out, "service bit 3");
     put(0x0D, yes, 1);
-    check(seen.shared.enabled, "WriteEnable");
-    check(!seen.service.act.watchdog && seen.service.his.watchdog, "service bit 3 after a wire call");
+    check(seen.shared.write_enable, "WriteEnable");
+    check(!seen.service.act.wd_run_out && seen.service.his.wd_run_out, "service bit 3 after a wire call");
     put(0x09, watchdog_off, 4);
-    check(memcmp(&seen.shared.config, watchdog_off, 4) == 0, "ModuleConfig");
+    check(memcmp(&seen.shared.module_config, watchdog_off, 4) == 0, "ModuleConfig");
     put(0x0A, one, 4);
     pd3120_tick(&box);
     look();
-    check(seen.shared.preset == 256, "WDPreset");
-    check(seen.service.watchdog == 248, "WDTimer");
+    check(seen.shared.wd_preset == 256, "WDPreset");
+    check(seen.service.wd_timer == 248, "WDTimer");
 }
 
 /* WriteEnable is TRUE, so registers 2, 4 and 5 are kept. */
@@ -177,13 +115,13 @@ static void last_channel(void)
     put(0x109, settings, 4);
     check(memcmp(&last->config, settings, 4) == 0, "ChConfig");
     put(0x101, one, 4);
-    check(last->timers.out == 256, "OutTimer");
+    check(last->out_timer == 256, "OutTimer");
     put(0x106, two, 4);
-    check(last->timers.feedback == 512, "FBTimer");
+    check(last->fb_timer == 512, "FBTimer");
     put(0x108, half, 4);
-    check(last->presets.out == 128, "OutPreset");
+    check(last->out_preset == 128, "OutPreset");
     put(0x107, two, 4);
-    check(last->presets.feedback == 512, "FBPreset");
+    check(last->fb_preset == 512, "FBPreset");
     put(0x103, two, 4);
     check(last->currents.out == 2.0f, "OutCurrent");
     put(0x10A, half, 4);
@@ -203,33 +141,54 @@ static void last_channel(void)
     check(memcmp(last->maintenance, eight_bytes + 2, 4) == 0, "the maintenance bytes");
 }
 
-static void flags_and_errors(void)
+static void flags(void)
 {
-    static const uint8_t output[4] = {0, 0x10, 2, 0};
     static const uint8_t one_shot[4] = {0, 0x20, 0, 0};
-    const struct channel *first = &seen.channels[0];
     const struct channel *second = &seen.channels[1];
-
-    pd3120_level(&box, 1, true);
-    put(0x10, out_flag, 1);
-    check(first->flags.input && !first->flags.out, "InFlag");
-    check(first->errors.act.program && first->errors.his.program, "PrgError");
-    put(0x19, output, 4);
-    put(0x10, out_flag, 1);
-    check(first->flags.out && first->flags.feedback, "OutFlag and FBStatus");
-    check(!first->errors.act.program && first->errors.his.program, "PrgError, cleared in Act");
-    pd3120_current(&box, 1, 2.5f);
-    look();
-    check(!first->flags.out, "OutFlag after a trip");
-    check(first->errors.act.overload && first->errors.his.overload, "OverLoad");
 
     put(0x29, one_shot, 4);
     put(0x28, two, 4);
     put(0x20, control, 1);
-    check(second->flags.control && !second->flags.internal, "Control");
+    check(second->flags.control && !second->flags.internal_state, "Control");
     pd3120_tick(&box);
     look();
-    check(second->flags.internal, "InternalState");
+    check(second->flags.internal_state, "InternalState");
+}
+
+/* Every error of channel 1, one after another; what was seen once stays in His. */
+static void errors(void)
+{
+    static const uint8_t output[4] = {0x20, 0x10, 3, 0};
+    const struct channel *first = &seen.channels[0];
+
+    /* An input has no OutFlag. */
+    pd3120_level(&box, 1, true);
+    put(0x10, out_flag, 1);
+    check(first->flags.in_flag && !first->flags.out_flag, "InFlag");
+    check(first->errors.act == PRG_ERROR && first->errors.his == PRG_ERROR, "PrgError");
+    put(0x19, output, 4);
+    put(0x1A, half, 4);
+    put(0x10, out_flag, 1);
+    check(first->flags.out_flag && first->flags.fb_status, "OutFlag and FBStatus");
+    check(first->errors.act == 0 && first->errors.his == PRG_ERROR, "PrgError, cleared in Act");
+    /* On, with no current, and no level here and on channel 3. */
+    pd3120_level(&box, 1, false);
+    pd3120_tick(&box);
+    look();
+    check(first->errors.act == (UNDERLOAD | INTERNAL_DISCONNECTION | FEEDBACK_ERROR), "UnderLoad and two more");
+    check(first->errors.his == (first->errors.act | PRG_ERROR), "UnderLoad and two more, in His");
+    pd3120_current(&box, 1, 2.5f);
+    look();
+    check(!first->flags.out_flag, "OutFlag after a trip");
+    check((first->errors.act & first->errors.his & OVERLOAD) != 0, "OverLoad");
+    /* Off, with a current and a level. */
+    pd3120_level(&box, 1, true);
+    pd3120_tick(&box);
+    look();
+    check((first->errors.act & EXTERNAL_SHORTCIR_ERROR) != 0, "ExternalShortcirError");
+    check((first->errors.act & INTERNAL_SHORTCIR_ERROR) != 0, "InternalShortCirError");
+    check((first->errors.act & (UNDERLOAD | INTERNAL_DISCONNECTION)) == 0, "errors that are over");
+    check(first->errors.his == 0x7F, "all seven errors");
 }
 
 int main(void)
@@ -237,7 +196,8 @@ int main(void)
     printf("layout: a module has %zu bytes and is aligned to %zu\n", sizeof(pd3120_module), _Alignof(pd3120_module));
     shared_and_service();
     last_channel();
-    flags_and_errors();
+    flags();
+    errors();
     if (failures != 0)
         return 1;
     printf("layout: all values are where the structs say\n");

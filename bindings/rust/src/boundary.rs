@@ -14,8 +14,8 @@
 
 use std::mem::MaybeUninit;
 
-/// A module has 1504 bytes, in words of the alignment that it asks for.
-const WORDS: usize = 376;
+/// A module has 1312 bytes, in words of the alignment that it asks for.
+const WORDS: usize = 328;
 
 /// The memory of a module. It begins as zeros, which are a value of every field
 /// of a module, and after that only the library writes it, so that it always
@@ -38,54 +38,63 @@ extern "C" {
 
 impl Module {
     /// The module that an image powers up to, and the code of the answer.
+    #[inline]
     pub fn powered_up(image: &[u8]) -> (Module, u32) {
         let mut module = Module([MaybeUninit::new(0); WORDS]);
         let code = module.power_up(image);
         (module, code)
     }
 
+    #[inline]
     pub fn power_up(&mut self, image: &[u8]) -> u32 {
         // SAFETY: `self` is a valid module that nobody else can reach during the
         // call; the image is a slice that is only read.
         unsafe { pd3120_power_up(self, image.as_ptr(), image.len()) }
     }
 
+    #[inline]
     pub fn store(&self, buffer: &mut [u8]) -> u32 {
         // SAFETY: `self` is a valid module that is only read; nobody else can
         // reach the buffer during the call, and it cannot lie within `self`.
         unsafe { pd3120_store(self, buffer.as_mut_ptr(), buffer.len()) }
     }
 
+    #[inline]
     pub fn read(&mut self, swno: u16, buffer: &mut [u8]) -> u32 {
         // SAFETY: `self` is a valid module, and nobody else can reach it or the
         // buffer during the call; the two cannot overlap.
         unsafe { pd3120_read(self, swno, buffer.as_mut_ptr(), buffer.len()) }
     }
 
+    #[inline]
     pub fn write(&mut self, swno: u16, bytes: &[u8]) -> u32 {
         // SAFETY: `self` is a valid module that nobody else can reach during the
         // call; the bytes are a slice that is only read.
         unsafe { pd3120_write(self, swno, bytes.as_ptr(), bytes.len()) }
     }
 
+    #[inline]
     pub fn level(&mut self, channel: u8, on: bool) -> u32 {
         // SAFETY: `self` is a valid module that nobody else can reach during the
         // call; any channel number is a value that the function takes.
         unsafe { pd3120_level(self, channel, on) }
     }
 
+    #[inline]
     pub fn current(&mut self, channel: u8, amperes: f32) -> u32 {
         // SAFETY: `self` is a valid module that nobody else can reach during the
         // call; any channel number and any Real are values that the function takes.
         unsafe { pd3120_current(self, channel, amperes) }
     }
 
+    #[inline]
     pub fn tick(&mut self) {
         // SAFETY: `self` is a valid module that nobody else can reach during the
         // call.
         unsafe { pd3120_tick(self) }
     }
 
+    #[inline]
     pub fn output(&self, channel: u8) -> bool {
         // SAFETY: `self` is a valid module that is only read; any channel number
         // is a value that the function takes, and it answers 0 or 1.

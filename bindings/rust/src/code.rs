@@ -5,6 +5,7 @@
 use crate::{Answer, Error, ErrorBits, Refusal};
 
 /// Why the call is refused, where it is.
+#[inline]
 fn refusal(code: u32) -> Option<Refusal> {
     let number = code & 0xFF;
     if number == 0 {
@@ -14,10 +15,12 @@ fn refusal(code: u32) -> Option<Refusal> {
     Some(refusal.expect("the library is proved to answer 0 to 14"))
 }
 
+#[inline]
 fn length(code: u32) -> usize {
     (code >> 8 & 0xFFFF) as usize
 }
 
+#[inline]
 fn bits(code: u32) -> ErrorBits {
     ErrorBits {
         data_error: code >> 24 & 1 == 1,
@@ -26,6 +29,7 @@ fn bits(code: u32) -> ErrorBits {
 }
 
 /// The answer of a wire call.
+#[inline]
 pub fn wire(code: u32) -> Result<Answer, Error> {
     let bits = bits(code);
     match refusal(code) {
@@ -41,6 +45,7 @@ pub fn wire(code: u32) -> Result<Answer, Error> {
 }
 
 /// The length that a call other than a wire call answers.
+#[inline]
 pub fn plain(code: u32) -> Result<usize, Error> {
     match refusal(code) {
         None => Ok(length(code)),

@@ -58,12 +58,14 @@ impl Refusal {
     ];
 
     /// The refusal of a number, which is from 1 to 14.
+    #[inline]
     pub fn numbered(number: u8) -> Option<Refusal> {
         let index = usize::from(number).checked_sub(1)?;
         Refusal::ALL.get(index).copied()
     }
 
     /// Document 01's number, from 1 to 14.
+    #[inline]
     pub fn number(self) -> u8 {
         self as u8
     }
@@ -108,6 +110,7 @@ pub struct Error {
 
 impl Error {
     /// Document 01's number, from 1 to 14.
+    #[inline]
     pub fn number(&self) -> u8 {
         self.refusal.number()
     }

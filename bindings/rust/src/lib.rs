@@ -61,13 +61,15 @@ pub struct Answer {
 
 /// A PD 3120 channel box, powered up.
 ///
-/// It is a plain value of 1504 bytes: it can be moved, cloned and sent to
+/// It is a plain value of 1312 bytes: it can be moved, cloned and sent to
 /// another thread, and nothing of it is held elsewhere.
 #[derive(Clone)]
 pub struct Pd3120 {
     module: Module,
 }
 
+// Every function of a call is `#[inline]`, here and below: in a program of another package nothing
+// then stands between the caller and the library's own function.
 impl Pd3120 {
     /// The box that a setup image powers up to.
     ///
@@ -79,6 +81,7 @@ impl Pd3120 {
     /// # let image = [0; 717];
     /// let module = Pd3120::power_up(&image).unwrap_or_default();
     /// ```
+    #[inline]
     pub fn power_up(image: &[u8]) -> Result<Pd3120, Error> {
         let (module, code) = Module::powered_up(image);
         code::plain(code)?;
@@ -87,6 +90,7 @@ impl Pd3120 {
 
     /// Powers this box up again. A refused image leaves it as
     /// [`Pd3120::default`].
+    #[inline]
     pub fn power_up_again(&mut self, image: &[u8]) -> Result<(), Error> {
         code::plain(self.module.power_up(image))?;
         Ok(())
@@ -94,11 +98,13 @@ impl Pd3120 {
 
     /// Puts the kept values into the first 717 bytes of a buffer, as a setup
     /// image, and gives that length.
+    #[inline]
     pub fn store(&self, buffer: &mut [u8]) -> Result<usize, Error> {
         code::plain(self.module.store(buffer))
     }
 
     /// The kept values as a setup image.
+    #[inline]
     pub fn image(&self) -> [u8; IMAGE_LENGTH] {
         let mut image = [0; IMAGE_LENGTH];
         self.store(&mut image).expect("717 bytes are enough");
@@ -109,34 +115,40 @@ impl Pd3120 {
     ///
     /// Every wire call, refused or not, clears Act bit 3 of the service channel
     /// and sets WDTimer to WDPreset; this is all that a refused one changes.
+    #[inline]
     pub fn read(&mut self, swno: u16, buffer: &mut [u8]) -> Result<Answer, Error> {
         code::wire(self.module.read(swno, buffer))
     }
 
     /// A wire write of all bytes of a register.
+    #[inline]
     pub fn write(&mut self, swno: u16, bytes: &[u8]) -> Result<Answer, Error> {
         code::wire(self.module.write(swno, bytes))
     }
 
     /// A level of a channel's terminal.
+    #[inline]
     pub fn level(&mut self, channel: u8, on: bool) -> Result<(), Error> {
         code::plain(self.module.level(channel, on))?;
         Ok(())
     }
 
     /// A load current of a channel, in amperes.
+    #[inline]
     pub fn current(&mut self, channel: u8, amperes: f32) -> Result<(), Error> {
         code::plain(self.module.current(channel, amperes))?;
         Ok(())
     }
 
     /// A tick: 1/32 s passes.
+    #[inline]
     pub fn tick(&mut self) {
         self.module.tick();
     }
 
     /// Whether a channel's terminal is driven; FALSE for a number outside 1 to
     /// 16.
+    #[inline]
     pub fn output(&self, channel: u8) -> bool {
         self.module.output(channel)
     }
@@ -144,6 +156,7 @@ impl Pd3120 {
 
 /// The box of all-zero settings, which every refused power-up gives.
 impl Default for Pd3120 {
+    #[inline]
     fn default() -> Pd3120 {
         // An empty image is refused, by number 10.
         let (module, _) = Module::powered_up(&[]);

@@ -8,18 +8,33 @@ use std::mem::{align_of, size_of};
 
 /// A copy of the structs of `crates/model/src/lib.rt`.
 #[repr(C)]
-struct Config([u8; 4]);
+struct Config {
+    enablebit: u8,
+    functions: u8,
+    ref_a: u8,
+    ref_b: u8,
+}
 
 #[repr(C)]
-struct Timers {
-    out: i32,
-    feedback: i32,
+struct Flags {
+    out_flag: bool,
+    in_flag: bool,
+    control: bool,
+    fb_status: bool,
+    internal_state: bool,
+}
+
+#[repr(C)]
+struct Currents {
+    out: f32,
+    min: f32,
+    max: f32,
 }
 
 #[repr(C)]
 struct Errors {
-    act: [bool; 7],
-    his: [bool; 7],
+    act: u8,
+    his: u8,
 }
 
 #[repr(C)]
@@ -32,10 +47,12 @@ struct Kept {
 #[repr(C)]
 struct Channel {
     config: Config,
-    flags: [bool; 5],
-    timers: Timers,
-    presets: Timers,
-    currents: [f32; 3],
+    flags: Flags,
+    out_timer: i32,
+    fb_timer: i32,
+    out_preset: i32,
+    fb_preset: i32,
+    currents: Currents,
     errors: Errors,
     counter: i32,
     operating: u32,
@@ -47,18 +64,25 @@ struct Channel {
 
 #[repr(C)]
 struct Shared {
-    timer: i32,
-    config: Config,
-    preset: i32,
-    enabled: bool,
-    saving: u32,
+    free_run_timer: i32,
+    module_config: Config,
+    wd_preset: i32,
+    write_enable: bool,
+    save_ticks: u32,
+}
+
+#[repr(C)]
+struct ServiceBits {
+    internal_reset: bool,
+    external_reset: bool,
+    wd_run_out: bool,
 }
 
 #[repr(C)]
 struct Service {
-    watchdog: i32,
-    act: [bool; 3],
-    his: [bool; 3],
+    wd_timer: i32,
+    act: ServiceBits,
+    his: ServiceBits,
 }
 
 #[repr(C)]
@@ -75,8 +99,8 @@ fn look(module: &Module) -> &Copied {
 }
 
 #[test]
-fn a_module_has_1504_bytes_aligned_to_4() {
-    assert_eq!(size_of::<Module>(), 1504);
+fn a_module_has_1312_bytes_aligned_to_4() {
+    assert_eq!(size_of::<Module>(), 1312);
     assert_eq!(size_of::<Copied>(), size_of::<Module>());
     assert_eq!(align_of::<Copied>(), align_of::<Module>());
 }
@@ -86,13 +110,16 @@ fn a_module_has_1504_bytes_aligned_to_4() {
 fn the_library_uses_the_memory_from_its_first_field_to_its_last() {
     let (mut module, _) = Module::powered_up(&[]);
     module.tick();
-    assert_eq!(look(&module).shared.timer, 8);
+    assert_eq!(look(&module).shared.free_run_timer, 8);
     module.write(0x0D, &[1]);
-    assert!(look(&module).shared.enabled);
+    assert!(look(&module).shared.write_enable);
     module.write(0x105, &[1, 2, 3, 4]);
     module.level(16, true);
     let last = &look(&module).channels[15];
     assert_eq!((last.counter, last.kept.user), (1, [1, 2, 3, 4]));
+    module.write(0x100, &[0x80]);
+    let Errors { act, his } = look(&module).channels[15].errors;
+    assert_eq!((act, his), (1, 1), "PrgError: an input has no OutFlag");
 }
 
 #[test]

@@ -2,7 +2,7 @@
 //! rounds the least is taken; the sides take turns, so that both meet the same
 //! machine.
 
-use crate::cases::{prepared, repeat, Start, Work};
+use crate::cases::{prepared, repeat, Start, Work, CASES};
 use crate::day::{play, Call};
 use crate::sides::{Library, Model, Side};
 use std::hint::black_box;
@@ -19,9 +19,11 @@ pub struct Effort {
     pub day_rounds: u32,
     /// Days that a box has behind it when its calls are timed again.
     pub days: usize,
+    /// Whether instructions are counted, which takes a while.
+    pub counted: bool,
 }
 
-/// ns a call on each side.
+/// ns, or instructions, a call on each side.
 pub struct Pair {
     pub library: f64,
     pub model: f64,
@@ -43,23 +45,52 @@ fn calls_of_a_round<S: Side>(side: &S, work: Work, round: Duration) -> u32 {
     (times * f64::from(TRIAL)) as u32 + 1
 }
 
-/// A single call, the same number of times on both sides.
-pub fn single(start: Start, work: Work, effort: Effort) -> Pair {
-    let (mut library, mut model) = (prepared::<Library>(start), prepared::<Model>(start));
-    let times = calls_of_a_round(&library, work, effort.round);
-    let mut least = [Duration::MAX; 2];
-    // The round before the first warms up.
-    for round in 0..=effort.rounds {
-        let taken = [
-            time(|| repeat(black_box(&mut library), work, times)),
-            time(|| repeat(black_box(&mut model), work, times)),
-        ];
-        if round > 0 {
-            least = [0, 1].map(|side| least[side].min(taken[side]));
+/// A case of the table, the same number of calls on both sides.
+struct Single {
+    work: Work,
+    times: u32,
+    library: Library,
+    model: Model,
+    least: [Duration; 2],
+}
+
+impl Single {
+    fn new(start: Start, work: Work, round: Duration) -> Single {
+        let library = prepared(start);
+        Single {
+            work,
+            times: calls_of_a_round(&library, work, round),
+            library,
+            model: prepared(start),
+            least: [Duration::MAX; 2],
         }
     }
-    let [library, model] = least.map(|least| least.as_nanos() as f64 / f64::from(times));
-    Pair { library, model }
+
+    fn round(&mut self) {
+        let (work, times) = (self.work, self.times);
+        let taken = [
+            time(|| repeat(black_box(&mut self.library), work, times)),
+            time(|| repeat(black_box(&mut self.model), work, times)),
+        ];
+        self.least = [0, 1].map(|side| self.least[side].min(taken[side]));
+    }
+
+    fn per_call(&self) -> Pair {
+        let ns = |least: Duration| least.as_nanos() as f64 / f64::from(self.times);
+        let [library, model] = self.least.map(ns);
+        Pair { library, model }
+    }
+}
+
+/// Every case of the table. A round goes through all of them, so that each is
+/// timed at as many different moments as there are rounds.
+pub fn singles(effort: Effort) -> Vec<Pair> {
+    let case = |&(_, start, work): &_| Single::new(start, work, effort.round);
+    let mut cases: Vec<Single> = CASES.iter().map(case).collect();
+    for _ in 0..effort.rounds {
+        cases.iter_mut().for_each(Single::round);
+    }
+    cases.iter().map(Single::per_call).collect()
 }
 
 /// A long list is timed in pieces of so many calls, each its least over the

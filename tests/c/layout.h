@@ -1,0 +1,78 @@
+/*
+ * The module's structs: those of crates/model/src/lib.rt and crates/counts/src/lib.rt, in C. layout.c
+ * holds them to the library.
+ */
+#ifndef LAYOUT_H
+#define LAYOUT_H
+
+#include "pd3120.h"
+
+struct config {
+    uint8_t enablebit, functions, ref_a, ref_b;
+};
+
+struct flags {
+    bool out_flag, in_flag, control, fb_status, internal_state;
+};
+
+struct currents {
+    float out, min, max;
+};
+
+/* Bits of a channel's Act and His. */
+enum error_bits {
+    OVERLOAD = 0x40,
+    UNDERLOAD = 0x20,
+    EXTERNAL_SHORTCIR_ERROR = 0x10,
+    INTERNAL_SHORTCIR_ERROR = 0x08,
+    INTERNAL_DISCONNECTION = 0x04,
+    FEEDBACK_ERROR = 0x02,
+    PRG_ERROR = 0x01
+};
+
+struct errors {
+    uint8_t act, his; /* ErrorBits */
+};
+
+struct kept {
+    int32_t counter;
+    uint32_t operating; /* OperatingCount */
+    uint8_t user[4];
+};
+
+struct channel {
+    struct config config;
+    struct flags flags;
+    int32_t out_timer, fb_timer, out_preset, fb_preset; /* TimerCount */
+    struct currents currents;
+    struct errors errors;
+    int32_t counter;
+    uint32_t operating; /* OperatingCount */
+    uint8_t user[4], reals[8], maintenance[4];
+    struct kept kept;
+};
+
+struct shared {
+    int32_t free_run_timer; /* TimerCount */
+    struct config module_config;
+    int32_t wd_preset; /* TimerCount */
+    bool write_enable;
+    uint32_t save_ticks;
+};
+
+struct service_bits {
+    bool internal_reset, external_reset, wd_run_out;
+};
+
+struct service {
+    int32_t wd_timer; /* TimerCount */
+    struct service_bits act, his;
+};
+
+struct module {
+    struct shared shared;
+    struct service service;
+    struct channel channels[16];
+};
+
+#endif

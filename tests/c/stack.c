@@ -1,0 +1,357 @@
+/*
+ * The stack of a call. Each call runs on a stack of its own, which was filled with a pattern before;
+ * afterwards the lowest word that differs tells how deep the call went. No call may go deeper than
+ * PD3120_STACK, and the deepest of each kind is printed.
+ *
+ * For a build with -O2 and no sanitizer, which would use the stack as well.
+ */
+#define _XOPEN_SOURCE 700 /* ucontext.h */
+#include "layout.h"
+
+#include <float.h>
+#include <math.h>
+#include <stdio.h>
+#include <string.h>
+#include <ucontext.h>
+
+static int failures;
+
+static void check(bool holds, const char *what)
+{
+    if (!holds) {
+        fprintf(stderr, "stack: %s\n", what);
+        failures++;
+    }
+}
+
+/* ---- calls ---- */
+
+enum kind { POWER_UP, STORE, READ, WRITE, LEVEL, CURRENT, TICK, OUTPUT, KINDS, NOTHING, KNOWN };
+
+static const char *const names[KINDS] = {"power_up", "store", "read", "write", "level", "current", "tick", "output"};
+
+struct call {
+    enum kind kind;
+    uint16_t swno;
+    uint8_t channel;
+    bool on;
+    float amperes;
+    size_t length; /* of the buffer */
+};
+
+static pd3120_module box;
+static uint8_t buffer[PD3120_IMAGE_SIZE + 1];
+static struct call call;
+static volatile uint32_t answer;
+
+static void touch_nothing(void)
+{
+}
+
+#define KNOWN_BYTES 1000
+
+static void touch_known(void)
+{
+    volatile uint8_t bytes[KNOWN_BYTES];
+    for (size_t i = 0; i < sizeof bytes; i++)
+        bytes[i] = 0;
+}
+
+/* Volatile, so that the compiler must call what they point to. */
+static void (*volatile nothing)(void) = touch_nothing;
+static void (*volatile known)(void) = touch_known;
+
+/*
+ * Makes the call. What the context functions use of the stack lies above the end of `apart`, and so
+ * is never taken for the library's. The last line keeps the frame until the call is over.
+ */
+static void make(void)
+{
+    volatile uint8_t apart[1024];
+    for (size_t i = 0; i < sizeof apart; i++)
+        apart[i] = 0;
+    switch (call.kind) {
+    case POWER_UP: answer = pd3120_power_up(&box, buffer, call.length); break;
+    case STORE: answer = pd3120_store(&box, buffer, call.length); break;
+    case READ: answer = pd3120_read(&box, call.swno, buffer, call.length); break;
+    case WRITE: answer = pd3120_write(&box, call.swno, buffer, call.length); break;
+    case LEVEL: answer = pd3120_level(&box, call.channel, call.on); break;
+    case CURRENT: answer = pd3120_current(&box, call.channel, call.amperes); break;
+    case TICK: pd3120_tick(&box); break;
+    case OUTPUT: answer = pd3120_output(&box, call.channel); break;
+    case KNOWN: known(); break;
+    default: nothing(); break;
+    }
+    apart[0] = 1;
+}
+
+/* ---- the stack that is watched ---- */
+
+#define WORDS 4096
+#define PATTERN 0xA5A5A5A5A5A5A5A5u
+
+static _Alignas(16) uint64_t stack[WORDS];
+static ucontext_t here, there;
+
+/* Makes a call on the stack, and gives the words that it left as they were. */
+static size_t untouched_by(struct call made)
+{
+    size_t left = 0;
+
+    call = made;
+    for (size_t i = 0; i < WORDS; i++)
+        stack[i] = PATTERN;
+    getcontext(&there);
+    there.uc_stack.ss_sp = stack;
+    there.uc_stack.ss_size = sizeof stack;
+    there.uc_link = &here;
+    makecontext(&there, make, 0);
+    swapcontext(&here, &there);
+    while (left < WORDS && stack[left] == PATTERN)
+        left++;
+    return left;
+}
+
+static size_t start; /* words below the frame of make */
+static size_t deepest[KINDS];
+static unsigned calls;
+
+/* A call of nothing touches the word of its return address alone. */
+static void find_start(void)
+{
+    untouched_by((struct call){.kind = NOTHING});
+    start = untouched_by((struct call){.kind = NOTHING}) + 1;
+}
+
+static size_t used(struct call made)
+{
+    return (start - untouched_by(made)) * sizeof stack[0];
+}
+
+static void measure(struct call made)
+{
+    size_t bytes = used(made);
+    if (bytes > deepest[made.kind])
+        deepest[made.kind] = bytes;
+    calls++;
+}
+
+/* ---- boxes ---- */
+
+static uint32_t put(uint16_t swno, const uint8_t *bytes, size_t length)
+{
+    return pd3120_number(pd3120_write(&box, swno, bytes, length));
+}
+
+/* Every channel with a function, two references and Enablebits of its own, some with errors. */
+static void set_up(uint8_t functions)
+{
+    static const uint8_t yes[1] = {1}, watchdog_off[4] = {0, 0x10, 0, 0}, flags[1] = {0x88};
+    static const uint8_t tenth[4] = {0x3D, 0xCC, 0xCC, 0xCD};
+
+    pd3120_power_up(&box, yes, sizeof yes);
+    check(put(0x0D, yes, 1) == PD3120_DONE, "WriteEnable is not written");
+    check(put(0x09, watchdog_off, 4) == PD3120_DONE, "ModuleConfig is not written");
+    for (uint8_t channel = 1; channel <= 16; channel++) {
+        const uint16_t swno = (uint16_t)(channel * 0x10);
+        const uint8_t config[4] = {(uint8_t)(channel * 0x1D), functions, channel % 16 + 1, (channel + 1) % 16 + 1};
+        check(put(swno + 9, config, 4) == PD3120_DONE, "ChConfig is not written");
+        put(swno + 7, tenth, 4);
+        put(swno + 8, tenth, 4);
+        put(swno + 0xA, tenth, 4);
+        put(swno, flags, 1);
+        pd3120_level(&box, channel, channel % 2 == 0);
+        pd3120_current(&box, channel, (float)channel / 7);
+    }
+}
+
+/* ---- what is measured, from the box as it is ---- */
+
+#define LAST_SWNO 0x13F
+#define LONGEST 13 /* bytes; one more than the longest register */
+
+/* Flags, Reals and settings, allowed and not; a register takes as many bytes of one as it has. */
+static const uint8_t values[][12] = {
+    {0x00},
+    {0x01},
+    {0x02},
+    {0x80},
+    {0xC8},
+    {0x3D, 0xCC, 0xCC, 0xCD},
+    {0x3F, 0x80},
+    {0xBF, 0x80},
+    {0x46, 0x12, 0x34, 0x56},
+    {0x4A, 0xFF, 0xFF, 0xFF},
+    {0x7F, 0x7F, 0xFF, 0xFF},
+    {0x00, 0x00, 0x00, 0x01},
+    {0x7F, 0x80},
+    {0xFF, 0x80},
+    {0x7F, 0xC0},
+    {0x00, 0x10, 2, 3},
+    {0x01, 0x20, 16, 0},
+    {0x24, 0x30, 0, 1},
+    {0x40, 0x50},
+    {0x00, 0x40},
+    {0x00, 0x10, 17},
+    {0xFF, 0xFF, 0xFF, 0xFF, 0xFF, 0xFF, 0xFF, 0xFF, 0xFF, 0xFF, 0xFF, 0xFF},
+};
+
+static void wire_calls(void)
+{
+    const pd3120_module before = box;
+
+    for (uint16_t swno = 0; swno <= LAST_SWNO; swno++) {
+        size_t size = pd3120_length(pd3120_read(&box, swno, buffer, LONGEST));
+        for (size_t length = 0; length <= LONGEST; length++) {
+            box = before;
+            measure((struct call){.kind = READ, .swno = swno, .length = length});
+            box = before;
+            memset(buffer, 0, LONGEST);
+            measure((struct call){.kind = WRITE, .swno = swno, .length = length});
+        }
+        for (size_t i = 0; i < sizeof values / sizeof values[0]; i++) {
+            box = before;
+            memcpy(buffer, values[i], sizeof values[i]);
+            measure((struct call){.kind = WRITE, .swno = swno, .length = size});
+        }
+        box = before;
+    }
+}
+
+static void samples_and_outputs(void)
+{
+    static const float amperes[] = {0.0f,    -0.0f,    FLT_MIN / 2, 0.2f,     1.0f, 2.0f, 2.5f,
+                                    FLT_MAX, -FLT_MAX, NAN,         INFINITY, -INFINITY};
+    const pd3120_module before = box;
+
+    for (unsigned channel = 0; channel <= UINT8_MAX; channel++) {
+        const uint8_t number = (uint8_t)channel;
+        for (int on = 0; on <= 1; on++) {
+            box = before;
+            measure((struct call){.kind = LEVEL, .channel = number, .on = on != 0});
+        }
+        for (size_t i = 0; i < sizeof amperes / sizeof amperes[0]; i++) {
+            box = before;
+            measure((struct call){.kind = CURRENT, .channel = number, .amperes = amperes[i]});
+        }
+        box = before;
+        measure((struct call){.kind = OUTPUT, .channel = number});
+    }
+}
+
+/* The last tick of ten hours, which saves. The count of the ticks before it is written into the box. */
+static void saving_tick(void)
+{
+    struct module seen;
+
+    memcpy(&seen, &box, sizeof seen);
+    seen.shared.save_ticks = 1151999;
+    seen.channels[0].kept.counter = ~seen.channels[0].counter;
+    memcpy(&box, &seen, sizeof seen);
+    measure((struct call){.kind = TICK});
+    memcpy(&seen, &box, sizeof seen);
+    check(seen.channels[0].kept.counter == seen.channels[0].counter, "the saving tick does not save");
+}
+
+static void ticks(void)
+{
+    const pd3120_module before = box;
+
+    for (int tick = 0; tick < 64; tick++)
+        measure((struct call){.kind = TICK});
+    saving_tick();
+    box = before;
+}
+
+/* A power-up from the bytes of the buffer, which must get this number. */
+static void power_up(size_t length, uint32_t number)
+{
+    const pd3120_module before = box;
+
+    measure((struct call){.kind = POWER_UP, .length = length});
+    check(answer == number, "a power-up does not get its number");
+    box = before;
+}
+
+/* Makes the sum of the buffer's image right. */
+static void put_sum(void)
+{
+    unsigned sum = 0;
+    for (size_t i = 0; i < PD3120_IMAGE_SIZE - 2; i++)
+        sum += buffer[i];
+    buffer[PD3120_IMAGE_SIZE - 2] = (uint8_t)(sum >> 8);
+    buffer[PD3120_IMAGE_SIZE - 1] = (uint8_t)sum;
+}
+
+static void images(void)
+{
+    static const size_t counts[] = {0, 9, PD3120_IMAGE_SIZE - 3};
+
+    for (size_t length = 0; length <= sizeof buffer; length++)
+        measure((struct call){.kind = STORE, .length = length});
+    for (size_t length = 0; length <= sizeof buffer; length++)
+        power_up(length, length == PD3120_IMAGE_SIZE ? PD3120_DONE : PD3120_IMAGE_LENGTH);
+    for (size_t i = 0; i < sizeof counts / sizeof counts[0]; i++) {
+        buffer[counts[i]] ^= 0x20;
+        put_sum();
+        power_up(PD3120_IMAGE_SIZE, PD3120_IMAGE_COUNTS);
+        buffer[counts[i]] ^= 0x20;
+    }
+    power_up(PD3120_IMAGE_SIZE, PD3120_IMAGE_SUM);
+    /* Each byte changed in turn, with the sum made right: a count, a setting, or a value that is taken as it is. */
+    for (size_t i = 0; i < PD3120_IMAGE_SIZE - 2; i++) {
+        buffer[i] ^= 0xE0;
+        put_sum();
+        measure((struct call){.kind = POWER_UP, .length = PD3120_IMAGE_SIZE});
+        buffer[i] ^= 0xE0;
+    }
+    buffer[2] = 0x40; /* Functions of ModuleConfig */
+    put_sum();
+    power_up(PD3120_IMAGE_SIZE, PD3120_IMAGE_VALUES);
+}
+
+static void every_call(void)
+{
+    static const uint8_t no[1] = {0};
+    const pd3120_module before = box;
+
+    wire_calls();
+    samples_and_outputs();
+    ticks();
+    images();
+    box = before;
+    put(0x0D, no, 1); /* WriteEnable FALSE */
+    wire_calls();
+    box = before;
+}
+
+int main(void)
+{
+    static const uint8_t functions[] = {0x00, 0x10, 0x20, 0x30, 0x50};
+
+    find_start();
+    size_t bytes = used((struct call){.kind = KNOWN});
+    check(bytes >= KNOWN_BYTES && bytes < KNOWN_BYTES + 64, "a known use is not found");
+
+    /* Zero memory, twice: at the first call of memcpy a dynamic linker may use the same stack. */
+    for (int round = 0; round < 2; round++) {
+        memset(&box, 0, sizeof box);
+        memset(deepest, 0, sizeof deepest);
+        calls = 0;
+        every_call();
+    }
+    for (size_t i = 0; i < sizeof functions; i++) {
+        set_up(functions[i]);
+        every_call();
+        for (int tick = 0; tick < 5; tick++)
+            pd3120_tick(&box);
+        every_call();
+    }
+
+    printf("stack: the most bytes that a call took, of %u calls; PD3120_STACK is %d\n", calls, PD3120_STACK);
+    for (int kind = 0; kind < KINDS; kind++) {
+        printf("  %-8s %5zu\n", names[kind], deepest[kind]);
+        check(deepest[kind] <= PD3120_STACK, "deeper than PD3120_STACK");
+    }
+    return failures != 0;
+}
