@@ -1,4 +1,4 @@
--- The facts of specs/Facts.antt about sizes, wire calls and worked values: by cases of the registers, and by computation; those about one channel are in
+-- The facts of specs/Facts.antt about sizes and wire calls, by cases of the registers; those about one channel are in
 -- Facts/Steps. Assumes nothing.
 pub mod Steps
 use mathlib.Core.Path.{_≡_, refl, ap}
@@ -33,7 +33,7 @@ use Rattle.model.specs.Image as Image
 use Rattle.model.specs.Writes as Writes
 use Rattle.model.specs.Questions as Questions
 use Rattle.model.specs.Calls.{read, write, step, cleared, watchdogPreset, writeLeaves}
-use Rattle.model.specs.Facts.{Sized, Wired, Worked}
+use Rattle.model.specs.Facts.{Sized, Wired}
 
 -- ---- sizes
 size-service : (r : ServiceRegister) (m : Module) → length (bytesRead (service r) m) ≡ size (service r)
@@ -127,24 +127,4 @@ wired =
       cleared-by-write = cleared-by-write;
       common-error-read = λ m. refl;
       common-error-written = λ m bs. refl;
-    }
-
--- ---- worked values
-pub worked : Worked
-unfolding ofBits toBits ofInt lt le Tick.saveDue Tick.tickShared Counts.freeRunTick Errors.comBytes Errors.anyBit Bytes.bytesOf Bytes.number Bytes.signedBytes Bytes.signedNumber Integers.modulo Integers.signedBits Reals.realBytes Reals.realFrom Reads.flagReg Settings.inA Settings.inB Settings.referenceOf Image.entryBytes Image.poweredUp Image.decode Image.entriesFrom Image.entryFrom Image.restored
-worked =
-    record {
-      at-two = refl;
-      above-two = refl;
-      at-leak = refl;
-      above-leak = refl;
-      before-save = refl;
-      save = refl;
-      save-ticks = λ s. refl;
-      next-tick = refl;
-      after-save = refl;
-      com-bytes = refl;
-      his-word = refl;
-      flag-bits = refl;
-      entry-order = refl;
     }

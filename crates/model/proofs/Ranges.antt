@@ -40,4 +40,13 @@ ranges =
       resets = refl;
       enables = refl;
       flags = refl;
+      out-bits = refl;
+      in-bits = refl;
+      out-words = refl;
+      in-words = refl;
+      error-words = refl;
+      common-errors = refl;
+      one-shot-flags = refl;
+      output-flags = refl;
+      input-flags = refl;
     }

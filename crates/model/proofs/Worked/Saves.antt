@@ -28,4 +28,6 @@ worked-saves =
       save = refl;
       after-save = refl;
       enable-between = refl;
+      starts = λ s. refl;
+      counts = refl;
     }

@@ -39,17 +39,20 @@ feedbackBox =
     0x0410_0E0F ∷ 0x0410_0E00 ∷ 0x0410_0000 ∷ [])
     ++ (noEntry ∷ lateEntry ∷ withFeedback 0x0110_100F ∷ []))
 
--- MinCurrent 0.5 A and MaxCurrent 0.75 A; FBPreset 4 but for channel 12; Enablebit 5 on 1, 3 and 14, all but 5 and 7 on 2, 0 on 7 and 8, 6 on 11
+-- MinCurrent 0.5 A and MaxCurrent 0.75 A; FBPreset 4, but 1000 on 5 and 12; Enablebit 5 on 1, 3, 5 and 14, all but 5 and 7 on 2, 0 on 7 and 8, 6 on 11
 abbrev pub withLimits : ℕ → Entry
 withLimits g = limited g 4 0 0x3F00_0000 0x3F40_0000
+
+abbrev pub late : ℕ → Entry
+late g = limited g 1000 0 0x3F00_0000 0x3F40_0000
 
 abbrev pub errorBox : Module
 errorBox =
     boxOf 0x0010_0000 0
-    (map withLimits
-    (0x2010_0000 ∷ 0x5F10_0000 ∷ 0x2010_0000 ∷ 0x0000_0000 ∷ 0x0010_0000 ∷ 0x0000_0000 ∷ 0x0110_0000 ∷ 0x0110_0000 ∷ 0x0010_0000 ∷ 0x0010_0000 ∷
-    0x4010_0000 ∷ [])
-    ++ (limited 0x0010_0000 1000 0 0x3F00_0000 0x3F40_0000 ∷ map withLimits (0x0010_0000 ∷ 0x2020_0000 ∷ 0x0010_0000 ∷ 0x0010_0000 ∷ [])))
+    (map withLimits (0x2010_0000 ∷ 0x5F10_0000 ∷ 0x2010_0000 ∷ 0x0000_0000 ∷ [])
+    ++ (late 0x2010_0000
+    ∷ (map withLimits (0x0000_0000 ∷ 0x0110_0000 ∷ 0x0110_0000 ∷ 0x0010_0000 ∷ 0x0010_0000 ∷ 0x4010_0000 ∷ [])
+    ++ (late 0x0010_0000 ∷ map withLimits (0x0010_0000 ∷ 0x2020_0000 ∷ 0x0010_0000 ∷ 0x0010_0000 ∷ [])))))
 
 -- one-shots 1, 2, 7 and 10, duty cycles 3, 4 and 8, timers 5 and 9, an output 6
 abbrev pub functionBox : Module
@@ -87,17 +90,18 @@ pub record Ticks : Type 0 where
   --  an acknowledgement
   pub errors : Plays errorBox
       (takes (amperes 1 0x3E80_0000) then takes (level 1 true) then takes (amperes 2 0x3E80_0000) then takes (level 3 true) then takes (level 4 true)
-      then takes (amperes 5 0x3DCC_CCCD) then takes (amperes 6 0x3DCC_CCCE) then takes (amperes 7 0x3E80_0000) then takes (amperes 9 0x3F40_0000)
-      then takes (level 9 true) then takes (amperes 10 0x3F40_0001) then takes (level 10 true) then takes (amperes 11 0x3F40_0001)
-      then takes (amperes 12 0x3F40_0001) then takes (level 12 true) then takes (amperes 13 0x3F40_0001) then takes (amperes 14 0x3F00_0000)
-      then takes (level 14 true) then takes (amperes 16 0x4040_0000) then takes (amperes 16 0x3F19_999A) then writes 0x10 (one 0x80) present
-      then writes 0x20 (one 0x80) present then writes 0x80 (one 0x80) present then writes 0x90 (one 0x80) present
+      then takes (amperes 4 0x3DCC_CCCD) then takes (amperes 5 0x3E80_0000) then takes (level 5 true) then takes (amperes 6 0x3DCC_CCCE)
+      then takes (amperes 7 0x3E80_0000) then takes (amperes 9 0x3F40_0000) then takes (level 9 true) then takes (amperes 10 0x3F40_0001)
+      then takes (level 10 true) then takes (amperes 11 0x3F40_0001) then takes (amperes 12 0x3F40_0001) then takes (level 12 true)
+      then takes (amperes 13 0x3F40_0001) then takes (amperes 14 0x3F00_0000) then takes (level 14 true) then takes (amperes 16 0x4040_0000)
+      then takes (amperes 16 0x3F19_999A) then writes 0x10 (one 0x80) present then writes 0x20 (one 0x80) present
+      then writes 0x50 (one 0x80) present then writes 0x80 (one 0x80) present then writes 0x90 (one 0x80) present
       then writes 0xA0 (one 0x80) present then writes 0xB0 (one 0x80) present then writes 0xC0 (one 0x80) present
-      then writes 0xE0 (one 0x80) present then writes 0x70 (one 0x40) present then writes 0x110 (two 0xAF83) present
+      then writes 0xE0 (one 0x80) present then writes 0x70 (one 0x40) present then writes 0x110 (two 0xAF93) present
       then writes 0xF0 (one 0x08) present then takes tick then wordsFrom 0x1F 16 present (0x2000_2000 ∷ 0 ∷ 0x1000_1000 ∷ 0 ∷ 0 ∷ 0x0800_0800 ∷ 0 ∷
       0 ∷ 0 ∷ 0x5800_5800 ∷ 0x0800_0800 ∷ 0 ∷ 0x0800_0800 ∷ 0 ∷ 0x0100_0100 ∷ 0x4000_4000 ∷ []) then bytesFrom 0x10 16 present (0xC2 ∷ 0xA0 ∷ 0x42 ∷
-      0x40 ∷ 0x00 ∷ 0x02 ∷ 0x40 ∷ 0x80 ∷ 0xC0 ∷ 0x42 ∷ 0x02 ∷ 0xC0 ∷ 0x02 ∷ 0xC0 ∷ 0x02 ∷ 0x82 ∷ []) then wordsFrom 0x16 16 present (0xBC80_0000 ∷
-      0xBC80_0000 ∷ 0xBD00_0000 ∷ 0xBD00_0000 ∷ 0xBD00_0000 ∷ 0xBD00_0000 ∷ 0xBD00_0000 ∷ 0xBC80_0000 ∷ 0xBC80_0000 ∷ 0x3C80_0000 ∷ 0x3C80_0000 ∷
+      0x40 ∷ 0xC0 ∷ 0x02 ∷ 0x40 ∷ 0x80 ∷ 0xC0 ∷ 0x42 ∷ 0x02 ∷ 0xC0 ∷ 0x02 ∷ 0xC0 ∷ 0x02 ∷ 0x82 ∷ []) then wordsFrom 0x16 16 present (0xBC80_0000 ∷
+      0xBC80_0000 ∷ 0xBD00_0000 ∷ 0xBD00_0000 ∷ 0x4078_0000 ∷ 0xBD00_0000 ∷ 0xBD00_0000 ∷ 0xBC80_0000 ∷ 0xBC80_0000 ∷ 0x3C80_0000 ∷ 0x3C80_0000 ∷
       0x4078_0000 ∷ 0xBD00_0000 ∷ 0xBC80_0000 ∷ 0xBD00_0000 ∷ 0xBD00_0000 ∷ []) then takes tick then wordsFrom 0x1F 16 present (0x2000_2000 ∷ 0 ∷
       0x1000_1000 ∷ 0 ∷ 0 ∷ 0x0800_0800 ∷ 0 ∷ 0 ∷ 0 ∷ 0x5800_5800 ∷ 0x0800_0800 ∷ 0 ∷ 0x0800_0800 ∷ 0 ∷ 0x0100_0100 ∷ 0x4000_4000 ∷ [])
       then reads 0x112 (four 0xD625_D625) present then reads 0x0F (words (0x8100_0100 ∷ 0x4AAC_0300 ∷ 0x4AAC_0300 ∷ [])) present)
