@@ -6,7 +6,6 @@ use mathlib.Core.List.{List, [], _∷_, _++_, map}
 use Prim.Native.Nat.{ℕ, zero, suc, _+_, _-_, _*_, _/_, _%_, _^_, max}
 use lib.ListN.{replicate, set}
 use Rattle.model.specs.declared.Function.{Function}
-use Rattle.model.specs.declared.Reference.{Reference}
 use Rattle.model.specs.declared.Channel.{Channel}
 use Rattle.model.specs.declared.Module.{Module}
 use Rattle.model.specs.declared.Function.the-variants.{Input, Output, OneShot, DutyCycle, Timer}
@@ -21,13 +20,17 @@ use Rattle.model.specs.Calls.{read, write, step}
 use Rattle.model.specs.Listed.{numbers}
 use Rattle.model.specs.Worked.{one, two, four, amperes, boxOf, entry}
 
--- every byte, and a list with one of its elements anew for each byte of `at`
+-- every byte, and a list with x at each of these places
 abbrev pub bytes : List ℕ
 bytes = numbers 0 256
 
 abbrev pub except : {A : Type 0} → List ℕ → A → List A → List A
 except [] x l = l
 except (n ∷ ns) x l = except ns x (set l n x)
+
+abbrev pub functionOfEvery : List Function
+functionOfEvery =
+    except (0x10 ∷ []) Output (except (0x20 ∷ []) OneShot (except (0x30 ∷ []) DutyCycle (except (0x50 ∷ []) Timer (replicate 256 Input))))
 
 -- n times a list
 abbrev pub times : {A : Type 0} → ℕ → List A → List A
@@ -81,7 +84,7 @@ bitTo k to b = b / 2 ^ k % 2 * 2 ^ to
 
 pub record Ranges : Type 0 where
   -- A channel 3 and 6: the function of every byte, and Head 4 and A channel 5: the channel
-  pub functions : map functionOf bytes ≡ except (0x10 ∷ []) Output (except (0x20 ∷ []) OneShot (except (0x30 ∷ []) DutyCycle (except (0x50 ∷ []) Timer (replicate 256 Input))))
+  pub functions : map functionOf bytes ≡ functionOfEvery
   pub references : map referenceOf bytes ≡ None ∷ (map ToChannel (numbers 1 16) ++ replicate 239 None)
   pub samples : map question8 bytes ≡ false ∷ (replicate 16 true ++ replicate 239 false)
   -- A channel 4: the four bits of Enablebit, in every byte
@@ -107,7 +110,8 @@ pub record Ranges : Type 0 where
   pub in-words : map (λ i. given 0x111 2 (afterWord 0x111 i)) (numbers 0 16) ≡ map (λ i. two (2 ^ i)) (numbers 0 16)
   pub error-words : map (λ k. given 0x112 4 (overloadOn k)) (numbers 1 16) ≡ map (λ i. two (2 ^ i) ++ two (2 ^ i)) (numbers 0 16)
   pub common-errors : map (λ k. given 0x0F 12 (overloadOn k)) (numbers 1 16) ≡ map (λ k. four 0x8100_0100 ++ (comOf k ++ comOf k)) (numbers 1 16)
-  -- A channel 1, 12 and 13: FlagReg after every byte written: a one-shot takes bits 7, 6 and 3; an output 7 and 6; an input 6. A set bit that is not taken shows in bit 1
+  -- A channel 1, 12 and 13: FlagReg after every byte written: a one-shot takes bits 7, 6 and 3, an output 7 and 6, an input 6; a set bit that is not taken
+  -- shows in bit 1
   pub one-shot-flags : map (afterFlags 0x20) bytes ≡ map (λ b. bitTo 7 7 b + bitTo 6 6 b + bitTo 3 3 b) bytes
   pub output-flags : map (afterFlags 0x10) bytes ≡ map (λ b. bitTo 7 7 b + bitTo 6 6 b + bitTo 3 1 b) bytes
   pub input-flags : map (afterFlags 0x00) bytes ≡ map (λ b. bitTo 6 6 b + max (bitTo 7 1 b) (bitTo 3 1 b)) bytes

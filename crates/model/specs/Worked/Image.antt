@@ -64,17 +64,18 @@ numbersOf (t ∷ ts) = t .number ∷ numbersOf ts
 -- counts, ModuleConfig and WDPreset
 abbrev pub moduleTries : List Try
 moduleTries =
-    try 1 (one 0xFF) 0 ∷ try 2 (one 0x10) 0 ∷ try 2 (one 0x20) 13 ∷ try 2 (one 0x01) 13 ∷ try 3 (two 0xFFFF) 0 ∷ try 5 (one 0x7F) 0 ∷ try 5 (one 0x80)
-    13 ∷ try 0 (one 0x02) 11 ∷ try 0 (one 0x00) 11 ∷ try 9 (one 0x0F) 11 ∷ try 9 (one 0x11) 11 ∷ try 714 (one 0x02) 11 ∷ try 714 (one 0x00) 11 ∷ []
+    try 1 (one 0xFF) 0 ∷ try 2 (one 0x10) 0 ∷ try 2 (one 0x20) 13 ∷ try 2 (one 0x01) 13 ∷ try 3 (two 0xFFFF) 0 ∷ try 5 (four 0x7FFF_FFFF) 0 ∷ try 5
+    (four 0x8000_0000) 13 ∷ try 0 (one 0x02) 11 ∷ try 0 (one 0x00) 11 ∷ try 9 (one 0x0F) 11 ∷ try 9 (one 0x11) 11 ∷ try 714 (one 0x02) 11 ∷ try 714
+    (one 0x00) 11 ∷ []
 
 -- an entry: ChConfig, presets of 0 to 2147483647, limits of 0 to 1 with -0, and 24 bytes that may be any
 abbrev pub entryTries : List Try
 entryTries =
     try 0 (one 0xFF) 0 ∷ try 1 (one 0x40) 13 ∷ try 1 (one 0x51) 13 ∷ try 1 (one 0x50) 0 ∷ try 1 (one 0x20) 0 ∷ try 1 (one 0x30) 0 ∷ try 1 (one 0x00) 0
-    ∷ try 2 (one 0x10) 0 ∷ try 2 (one 0x11) 13 ∷ try 3 (one 0x10) 0 ∷ try 3 (one 0x11) 13 ∷ try 4 (one 0x7F) 0 ∷ try 4 (one 0x80) 13 ∷ try 8 (one
-    0x7F) 0 ∷ try 8 (one 0x80) 13 ∷ try 12 (four 0x3F80_0000) 0 ∷ try 12 (four 0x3F80_0001) 13 ∷ try 12 (four 0x8000_0000) 0 ∷ try 12 (four
-    0x8000_0001) 13 ∷ try 12 (four 0x7FC0_0000) 13 ∷ try 16 (four 0x3F80_0000) 0 ∷ try 16 (four 0x3F80_0001) 13 ∷ try 16 (four 0x8000_0000) 0 ∷ try 16
-    (four 0x8000_0001) 13 ∷ try 16 (four 0x7FC0_0000) 13 ∷ try 20 (replicate 24 0xFF) 0 ∷ []
+    ∷ try 2 (one 0x10) 0 ∷ try 2 (one 0x11) 13 ∷ try 3 (one 0x10) 0 ∷ try 3 (one 0x11) 13 ∷ try 4 (four 0x7FFF_FFFF) 0 ∷ try 4 (four 0x8000_0000) 13 ∷
+    try 8 (four 0x7FFF_FFFF) 0 ∷ try 8 (four 0x8000_0000) 13 ∷ try 12 (four 0x3F80_0000) 0 ∷ try 12 (four 0x3F80_0001) 13 ∷ try 12 (four 0x8000_0000)
+    0 ∷ try 12 (four 0x8000_0001) 13 ∷ try 12 (four 0x7FC0_0000) 13 ∷ try 16 (four 0x3F80_0000) 0 ∷ try 16 (four 0x3F80_0001) 13 ∷ try 16 (four
+    0x8000_0000) 0 ∷ try 16 (four 0x8000_0001) 13 ∷ try 16 (four 0x7FC0_0000) 13 ∷ try 20 (replicate 24 0xFF) 0 ∷ []
 
 -- 16 entries of such bytes: their sum is above 65535
 abbrev pub fullImage : List ℕ
@@ -125,7 +126,8 @@ pub record Stores : Type 0 where
   pub refused : powerUp [] ≡ boxOf 0 0 (replicate 16 noEntry)
   -- A channel 17 and Setup image 4: what is kept of writes with WriteEnable, and of writes without it
   pub with-enable : storedEntry 1 enabledWrites ≡ words
-      (0x2120_0405 ∷ 0x0000_0300 ∷ 0x0000_0700 ∷ 0x3E80_0000 ∷ 0x3F40_0000 ∷ 0xE1E2_E3E4 ∷ 0xE5E6_E7E8 ∷ 0xF1F2_F3F4 ∷ 0x6162_6364 ∷ 0xFFFF_FFFE ∷ 0x0000_0029 ∷ [])
+      (0x2120_0405 ∷ 0x0000_0300 ∷ 0x0000_0700 ∷ 0x3E80_0000 ∷ 0x3F40_0000 ∷ 0xE1E2_E3E4 ∷ 0xE5E6_E7E8 ∷ 0xF1F2_F3F4 ∷ 0x6162_6364 ∷
+      0xFFFF_FFFE ∷ 0x0000_0029 ∷ [])
   pub without : storedEntry 1 otherWrites ≡ ownBytes
   pub sixteenth : storedEntry 16 lastWrites ≡ words
       (0xFF50_1001 ∷ 0x0000_0100 ∷ 0x0000_0200 ∷ 0x8000_0000 ∷ 0x3F80_0000 ∷ 0 ∷ 0 ∷ 0 ∷ 0 ∷ 0x0000_0009 ∷ 0x0000_000C ∷ [])
