@@ -5,7 +5,7 @@ use mathlib.Core.List.{List, [], _∷_, _++_, map}
 use Prim.Native.Nat.{ℕ, _+_, _-_, _*_, _%_}
 use lib.ListN.{length, take, drop, replicate}
 use Rattle.model.specs.Calls.{level, run, powerUp, powerUpAnswer, storeAnswer}
-use Rattle.model.specs.Worked.{one, two, four, words, Case, calm, past, answering, _then_, writes, takes, ticks, callOf, boxOf, entry}
+use Rattle.model.specs.Worked.{one, two, four, words, Case, calm, past, answering, _then_, writes, takes, ticks, callOf, boxOf}
 use Rattle.model.specs.Worked.{noEntry, wireBox}
 
 -- ---- the image of `wireBox`, by its sections

@@ -3,7 +3,6 @@ use mathlib.Core.Bool.{true, false}
 use mathlib.Core.List.{[], _∷_, _++_, map}
 use Prim.Native.Nat.{ℕ}
 use lib.ListN.{replicate}
-use Rattle.counts.specs.Counts.{timer}
 use Rattle.model.specs.declared.Module.{Module}
 use Rattle.model.specs.Image.{Entry}
 use Rattle.model.specs.Calls.{level, tick}

@@ -1,8 +1,7 @@
 -- Worked boxes: registers read, written and reset, their ranges, and refusals. The proof is in proofs/Worked/Wire.antt.
 use mathlib.Core.List.{[], _∷_}
-use Rattle.model.specs.Image.{Setup}
 use Rattle.model.specs.Calls.{tick}
-use Rattle.model.specs.Worked.{one, two, four, words, calm, past, _then_, reads, writes, refusedWrite, refusedRead, takes, amperes, ticks}
+use Rattle.model.specs.Worked.{one, two, four, words, calm, past, _then_, reads, writes, refusedWrite, refusedRead, takes, ticks}
 use Rattle.model.specs.Worked.{wordsFrom, Plays, wireBox}
 
 pub record Wire : Type 0 where
