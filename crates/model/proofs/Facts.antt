@@ -1,15 +1,12 @@
--- The facts of specs/Facts.antt about sizes, wire calls and worked values: by cases of the registers, and by computation; those about one channel are in
+-- The facts of specs/Facts.antt about sizes and wire calls, by cases of the registers; those about one channel are in
 -- Facts/Steps. Assumes nothing.
 pub mod Steps
-use mathlib.Core.Path.{_≡_, refl, ap}
+use mathlib.Core.Path.{_≡_, refl}
 use mathlib.Core.Bool.{Bool, false}
-use mathlib.Core.List.{List, [], _∷_, map}
-use Prim.Native.Nat.{ℕ, _+_}
+use mathlib.Core.List.{List}
+use Prim.Native.Nat.{ℕ}
 use lib.ListN.{length}
-use lib.Ieee.{ofBits, toBits, ofInt, lt, le}
 use Rattle.integers.specs.Bytes as Bytes
-use Rattle.integers.specs.Integers as Integers
-use Rattle.counts.specs.Counts as Counts
 use Rattle.numbers.specs.Reals as Reals
 use Rattle.model.specs.declared.Channel.{Channel}
 use Rattle.model.specs.declared.Service.{Service}
@@ -23,17 +20,15 @@ use Rattle.model.specs.declared.ServiceRegister.the-variants.{Highest, R
 use Rattle.model.specs.declared.DigitalRegister.the-variants.{FlagReg, OutTimer, Counter, OutCurrent, OperatingTime, UserBytes, FBTimer, FBPreset, OutPreset, ChConfig, MinCurrent, MaxCurrent, UserReals, Maintenance, ChError}
 use Rattle.model.specs.declared.CommonRegister.the-variants.{OutFlags, InFlags, IOChError, ChError as CommonChError}
 use Rattle.model.specs.State.{channelAt, writeEnable}
-use Rattle.model.specs.Settings as Settings
 use Rattle.model.specs.Errors as Errors
 use Rattle.model.specs.Registers.{Place, service, digital, common, unlisted, place, size}
 use Rattle.model.specs.Reads as Reads
 use Rattle.model.specs.Reads.{bytesRead}
 use Rattle.model.specs.Tick as Tick
-use Rattle.model.specs.Image as Image
 use Rattle.model.specs.Writes as Writes
 use Rattle.model.specs.Questions as Questions
 use Rattle.model.specs.Calls.{read, write, step, cleared, watchdogPreset, writeLeaves}
-use Rattle.model.specs.Facts.{Sized, Wired, Worked}
+use Rattle.model.specs.Facts.{Sized, Wired}
 
 -- ---- sizes
 size-service : (r : ServiceRegister) (m : Module) → length (bytesRead (service r) m) ≡ size (service r)
@@ -127,24 +122,4 @@ wired =
       cleared-by-write = cleared-by-write;
       common-error-read = λ m. refl;
       common-error-written = λ m bs. refl;
-    }
-
--- ---- worked values
-pub worked : Worked
-unfolding ofBits toBits ofInt lt le Tick.saveDue Tick.tickShared Counts.freeRunTick Errors.comBytes Errors.anyBit Bytes.bytesOf Bytes.number Bytes.signedBytes Bytes.signedNumber Integers.modulo Integers.signedBits Reals.realBytes Reals.realFrom Reads.flagReg Settings.inA Settings.inB Settings.referenceOf Image.entryBytes Image.poweredUp Image.decode Image.entriesFrom Image.entryFrom Image.restored
-worked =
-    record {
-      at-two = refl;
-      above-two = refl;
-      at-leak = refl;
-      above-leak = refl;
-      before-save = refl;
-      save = refl;
-      save-ticks = λ s. refl;
-      next-tick = refl;
-      after-save = refl;
-      com-bytes = refl;
-      his-word = refl;
-      flag-bits = refl;
-      entry-order = refl;
     }

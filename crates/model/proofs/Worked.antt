@@ -1,0 +1,6 @@
+-- The worked boxes, by computation.
+pub mod Wire
+pub mod Effects
+pub mod Ticks
+pub mod Saves
+pub mod Image
