@@ -1,8 +1,9 @@
-// The line that a call answers with.
+// The line that a call is answered with.
 ghost use Prim.Native.Nat.{_≤_};
 ghost use lib.ListN.{length};
 use model::Reply;
 use pd3120::replies;
+use script::calls::Line;
 use script::parameters::Wrong;
 use script::print;
 
@@ -16,7 +17,7 @@ fn put_head(out: &mut [u8], at: usize, name: &[u8], reply: Reply) -> usize
 }
 
 // NAME NUMBER, and no more.
-pub(crate) fn put_plain(out: &mut [u8], at: usize, name: &[u8], reply: Reply) -> usize
+fn put_plain(out: &mut [u8], at: usize, name: &[u8], reply: Reply) -> usize
     requires { ⌜ at ≤ length (now out) ⌝ }
     ensures { λ r. ⌜ r ≤ length (now (out .exit)) ⌝ }
 {
@@ -43,7 +44,7 @@ fn put_buffer(out: &mut [u8], at: usize, buffer: &[u8]) -> usize
 }
 
 // store NUMBER LENGTH BUFFER
-pub(crate) fn put_store(out: &mut [u8], at: usize, reply: Reply, buffer: &[u8]) -> usize
+fn put_store(out: &mut [u8], at: usize, reply: Reply, buffer: &[u8]) -> usize
     requires { ⌜ at ≤ length (now out) ⌝ }
     ensures { λ r. ⌜ r ≤ length (now (out .exit)) ⌝ }
 {
@@ -61,7 +62,7 @@ fn put_bits(out: &mut [u8], at: usize, data_error: bool, general_error: bool) ->
 }
 
 // read NUMBER LENGTH DATAERROR GENERALERROR BUFFER
-pub(crate) fn put_read(
+fn put_read(
     out: &mut [u8],
     at: usize,
     reply: Reply,
@@ -78,7 +79,7 @@ pub(crate) fn put_read(
 }
 
 // write NUMBER 0 DATAERROR GENERALERROR
-pub(crate) fn put_write(
+fn put_write(
     out: &mut [u8],
     at: usize,
     reply: Reply,
@@ -111,11 +112,38 @@ fn put_why(out: &mut [u8], at: usize, why: Wrong) -> usize
 }
 
 // error LINE: WHY
-pub(crate) fn put_error(out: &mut [u8], at: usize, line: u64, why: Wrong) -> usize
+fn put_error(out: &mut [u8], at: usize, line: u64, why: Wrong) -> usize
     requires { ⌜ at ≤ length (now out) ⌝ }
     ensures { λ r. ⌜ r ≤ length (now (out .exit)) ⌝ }
 {
     let t1 = print::put(out, at, b"error");
     let t2 = print::put_number(out, t1, line);
     put_why(out, t2, why)
+}
+
+// The answer to a line.
+pub(crate) fn put_answer(
+    out: &mut [u8],
+    at: usize,
+    line: Line,
+    number: u64,
+    reply: Reply,
+    data_error: bool,
+    general_error: bool,
+    bytes: &[u8],
+) -> usize
+    requires { ⌜ at ≤ length (now out) ⌝ }
+    ensures { λ r. ⌜ r ≤ length (now (out .exit)) ⌝ }
+{
+    match line {
+        Line::Empty => at,
+        Line::Error(why) => put_error(out, at, number, why),
+        Line::Power => put_plain(out, at, b"power", reply),
+        Line::Store => put_store(out, at, reply, bytes),
+        Line::Read(_) => put_read(out, at, reply, data_error, general_error, bytes),
+        Line::Write(_) => put_write(out, at, reply, data_error, general_error),
+        Line::Level(_, _) => put_plain(out, at, b"level", reply),
+        Line::Current(_, _) => put_plain(out, at, b"current", reply),
+        Line::Tick(_) => put_plain(out, at, b"tick", reply),
+    }
 }

@@ -1,150 +1,64 @@
-// The calls of a script, made on the box. Each answers the box afterwards and the place after the
-// answer's line.
-ghost use Prim.Native.Nat.{_≤_};
-ghost use lib.ListN.{length};
-use crate::answers;
+// What the lines of a script do to the box.
+use model::Call;
 use model::Module;
 use model::Reply;
 use numbers::reals;
+use pd3120::Answered;
 use script::calls::Line;
 
-pub struct Played {
-    pub after: Module,
-    pub to: usize,
+// A box, and an answer with no bits.
+fn plain(after: Module, reply: Reply) -> Answered {
+    Answered {
+        after: after,
+        reply: reply,
+        data_error: false,
+        general_error: false,
+    }
 }
 
-fn power(image: &[u8], out: &mut [u8], at: usize) -> Played
-    requires { ⌜ at ≤ length (now out) ⌝ }
-    ensures { λ r. ⌜ r .to ≤ length (now (out .exit)) ⌝ }
-{
+fn power(image: &[u8]) -> Answered {
     let started = pd3120::power_up(image);
     let after = started.after;
     let reply = started.reply;
-    let to = answers::put_plain(out, at, b"power", reply);
-    Played {
-        after: after,
-        to: to,
-    }
+    plain(after, reply)
 }
 
-fn store(m: Module, lent: &mut [u8], out: &mut [u8], at: usize) -> Played
-    requires { ⌜ at ≤ length (now out) ⌝ }
-    ensures { λ r. ⌜ r .to ≤ length (now (out .exit)) ⌝ }
-{
+fn store(m: Module, lent: &mut [u8]) -> Answered {
     let reply = pd3120::store(m, lent);
-    let to = answers::put_store(out, at, reply, lent);
-    Played { after: m, to: to }
+    plain(m, reply)
 }
 
-fn read(m: Module, swno: u16, lent: &mut [u8], out: &mut [u8], at: usize) -> Played
-    requires { ⌜ at ≤ length (now out) ⌝ }
-    ensures { λ r. ⌜ r .to ≤ length (now (out .exit)) ⌝ }
-{
-    let answered = pd3120::read(m, swno, lent);
-    let after = answered.after;
-    let reply = answered.reply;
-    let to = answers::put_read(
-        out,
-        at,
-        reply,
-        answered.data_error,
-        answered.general_error,
-        lent,
-    );
-    Played {
-        after: after,
-        to: to,
-    }
-}
-
-fn write(m: Module, swno: u16, bytes: &[u8], out: &mut [u8], at: usize) -> Played
-    requires { ⌜ at ≤ length (now out) ⌝ }
-    ensures { λ r. ⌜ r .to ≤ length (now (out .exit)) ⌝ }
-{
-    let answered = pd3120::write(m, swno, bytes);
-    let after = answered.after;
-    let reply = answered.reply;
-    let to = answers::put_write(out, at, reply, answered.data_error, answered.general_error);
-    Played {
-        after: after,
-        to: to,
-    }
-}
-
-fn level(m: Module, channel: u8, on: bool, out: &mut [u8], at: usize) -> Played
-    requires { ⌜ at ≤ length (now out) ⌝ }
-    ensures { λ r. ⌜ r .to ≤ length (now (out .exit)) ⌝ }
-{
-    let sampled = pd3120::level(m, channel, on);
-    let after = sampled.after;
-    let reply = sampled.reply;
-    let to = answers::put_plain(out, at, b"level", reply);
-    Played {
-        after: after,
-        to: to,
-    }
-}
-
-fn current(m: Module, channel: u8, real: u32, out: &mut [u8], at: usize) -> Played
-    requires { ⌜ at ≤ length (now out) ⌝ }
-    ensures { λ r. ⌜ r .to ≤ length (now (out .exit)) ⌝ }
-{
-    let sampled = pd3120::current(m, channel, reals::of_bits(real));
-    let after = sampled.after;
-    let reply = sampled.reply;
-    let to = answers::put_plain(out, at, b"current", reply);
-    Played {
-        after: after,
-        to: to,
-    }
-}
-
-fn ticked(m: Module, n: u32) -> Module {
-    let mut next = m;
-    let mut left = n;
+// Makes a call so many times over, and answers as the last does: once, but for ticks.
+fn make(m: Module, c: Call, times: u32, written: &[u8], lent: &mut [u8]) -> Answered {
+    let mut answered = plain(m, Reply::Done(0));
+    let mut left = times;
     while 0 < left {
-        next = pd3120::tick(next);
+        let next = answered.after;
+        answered = pd3120::call(next, c, written, lent);
         left -= 1;
     }
-    next
+    answered
 }
 
-fn tick(m: Module, n: u32, out: &mut [u8], at: usize) -> Played
-    requires { ⌜ at ≤ length (now out) ⌝ }
-    ensures { λ r. ⌜ r .to ≤ length (now (out .exit)) ⌝ }
-{
-    let after = ticked(m, n);
-    let to = answers::put_plain(out, at, b"tick", Reply::Done(0));
-    Played {
-        after: after,
-        to: to,
-    }
+// A write lends nothing.
+fn write(m: Module, swno: u16, bytes: &[u8]) -> Answered {
+    let mut nothing = [0u8; 0];
+    make(m, Call::Write(swno), 1, bytes, &mut nothing)
 }
 
-// Makes what a line asks for; bytes are the image, the written bytes or the lent buffer.
-pub(crate) fn perform(
-    m: Module,
-    line: Line,
-    number: u64,
-    bytes: &mut [u8],
-    out: &mut [u8],
-    at: usize,
-) -> Played
-    requires { ⌜ at ≤ length (now out) ⌝ }
-    ensures { λ r. ⌜ r .to ≤ length (now (out .exit)) ⌝ }
-{
+// Does what a line asks for; bytes are the image, the written bytes or the lent buffer.
+pub(crate) fn perform(m: Module, line: Line, bytes: &mut [u8]) -> Answered {
     match line {
-        Line::Empty => Played { after: m, to: at },
-        Line::Error(why) => Played {
-            after: m,
-            to: answers::put_error(out, at, number, why),
-        },
-        Line::Power => power(bytes, out, at),
-        Line::Store => store(m, bytes, out, at),
-        Line::Read(swno) => read(m, swno, bytes, out, at),
-        Line::Write(swno) => write(m, swno, bytes, out, at),
-        Line::Level(channel, on) => level(m, channel, on, out, at),
-        Line::Current(channel, real) => current(m, channel, real, out, at),
-        Line::Tick(n) => tick(m, n, out, at),
+        Line::Empty => plain(m, Reply::Done(0)),
+        Line::Error(_) => plain(m, Reply::Done(0)),
+        Line::Power => power(bytes),
+        Line::Store => store(m, bytes),
+        Line::Read(swno) => make(m, Call::Read(swno), 1, b"", bytes),
+        Line::Write(swno) => write(m, swno, bytes),
+        Line::Level(channel, on) => make(m, Call::Level(channel, on), 1, b"", bytes),
+        Line::Current(channel, real) => {
+            make(m, Call::Current(channel, reals::of_bits(real)), 1, b"", bytes)
+        }
+        Line::Tick(n) => make(m, Call::Tick, n, b"", bytes),
     }
 }

@@ -9,6 +9,7 @@ use libc::STDERR_FILENO;
 use libc::STDIN_FILENO;
 use libc::STDOUT_FILENO;
 use model::Module;
+use script::calls::Parsed;
 use script::lines;
 use script::lines::LONGEST_LINE;
 use script::parameters::Wrong;
@@ -38,22 +39,38 @@ fn next_number(n: u64) -> u64 {
     n + 1
 }
 
+// A line whose start was too long to be kept is too long, whatever is left of it.
+fn parse(long: bool, line: &[u8], space: &mut [u8]) -> Parsed
+    ensures { λ r. ⌜ r .n ≤ length (now (space .exit)) ⌝ }
+{
+    if long {
+        return script::calls::wrong(Wrong::LineTooLong);
+    }
+    lines::parse(line, space)
+}
+
 fn run_line(p: Player, line: &[u8], space: &mut [u8], out: &mut [u8], at: usize) -> Next
     requires { ⌜ at ≤ length (now out) ⌝ }
     ensures { λ r. ⌜ r .to ≤ length (now (out .exit)) ⌝ }
 {
     let number = next_number(p.line);
     let m = p.after;
-    if p.long {
-        let to = answers::put_error(out, at, number, Wrong::LineTooLong);
-        return next_line(m, number, to);
-    }
-    let parsed = lines::parse(line, space);
+    let parsed = parse(p.long, line, space);
     let asked = parsed.line;
     let n = parsed.n;
-    let played = calls::perform(m, asked, number, &mut space[0..n], out, at);
-    let after = played.after;
-    let to = played.to;
+    let answered = calls::perform(m, asked, &mut space[0..n]);
+    let after = answered.after;
+    let reply = answered.reply;
+    let to = answers::put_answer(
+        out,
+        at,
+        asked,
+        number,
+        reply,
+        answered.data_error,
+        answered.general_error,
+        &space[0..n],
+    );
     next_line(after, number, to)
 }
 
