@@ -1,4 +1,5 @@
--- The claims of specs/Claims.antt. Each follows from the two's complement of the machine, `toZ` and `ofZ`, which the laws of Residues tie to `signedBits` and `modulo`. Assumes nothing.
+-- The claims of specs/Claims.antt. Each follows from the two's complement of the machine, `toZ` and `ofZ`, which the laws of Residues tie to `signedBits` and
+-- `modulo`. Assumes nothing.
 use mathlib.Core.Path.{_≡_, refl, sym, ap, ap₂, _∙_, subst}
 use mathlib.Core.List.{List}
 use Prim.Native.Nat.{ℕ, zero, suc, _*_, _^_, _<_}

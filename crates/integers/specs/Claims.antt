@@ -11,7 +11,8 @@ use mir.Val.{SFits, bits}
 use Rattle.integers.specs.Integers.{modulo, wrapped}
 use Rattle.integers.specs.Bytes.{number, bytesOf, signedNumber, signedBytes}
 
--- A number brought into the signed bits of a width has them, differs by a multiple of 2 ^ bits, and is the number itself where that has them. `SFits w z` says that z is from −2 ^ (bits − 1) up to, not including, 2 ^ (bits − 1).
+-- A number brought into the signed bits of a width has them, differs by a multiple of 2 ^ bits, and is the number itself where that has them. `SFits w z`
+-- says that z is from −2 ^ (bits − 1) up to, not including, 2 ^ (bits − 1).
 pub record Wrapped : Type 0 where
   pub held : (w : Width) (z : ℤ) → SFits w (wrapped (bits w) z)
   pub congruent : (w : Width) (z : ℤ) → modulo (wrapped (bits w) z) (2 ^ bits w) ≡ modulo z (2 ^ bits w)

@@ -17,7 +17,8 @@ use Rattle.model.specs.declared.DigitalRegister.{DigitalRegister}
 use Rattle.model.specs.declared.CommonRegister.{CommonRegister}
 use Rattle.model.specs.declared.Reply.the-variants.{Done, Refused}
 use Rattle.model.specs.declared.ServiceRegister.the-variants.{Highest, Reset, FreeRunTimer, WDTimer, ModuleConfig, WDPreset, WriteEnable, CommonError}
-use Rattle.model.specs.declared.DigitalRegister.the-variants.{FlagReg, OutTimer, Counter, OutCurrent, OperatingTime, UserBytes, FBTimer, FBPreset, OutPreset, ChConfig, MinCurrent, MaxCurrent, UserReals, Maintenance, ChError}
+use Rattle.model.specs.declared.DigitalRegister.the-variants.{FlagReg, OutTimer, Counter, OutCurrent, OperatingTime, UserBytes, FBTimer, FBPreset}
+use Rattle.model.specs.declared.DigitalRegister.the-variants.{OutPreset, ChConfig, MinCurrent, MaxCurrent, UserReals, Maintenance, ChError}
 use Rattle.model.specs.declared.CommonRegister.the-variants.{OutFlags, InFlags, IOChError, ChError as CommonChError}
 use Rattle.model.specs.State.{channelAt, writeEnable}
 use Rattle.model.specs.Errors as Errors
@@ -62,7 +63,8 @@ digital-size UserReals levels ch u x t = x
 digital-size Maintenance levels ch u x t = t
 digital-size ChError levels ch u x t = refl
 
-size-digital : (k : ℕ) (r : DigitalRegister) (m : Module) → length (channelAt m k .user) ≡ 4 → length (channelAt m k .reals) ≡ 8 → length (channelAt m k .maintenance) ≡ 4 →
+size-digital : (k : ℕ) (r : DigitalRegister) (m : Module) → length (channelAt m k .user) ≡ 4 → length (channelAt m k .reals) ≡ 8 → length
+    (channelAt m k .maintenance) ≡ 4 →
     length (bytesRead (digital k r) m) ≡ size (digital k r)
 unfolding bytesRead
 size-digital k r m u x t = digital-size r (Tick.levels m) (channelAt m k) u x t

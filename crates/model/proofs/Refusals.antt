@@ -22,7 +22,8 @@ use Rattle.model.specs.Image.{poweredUp, zeroSetup}
 use Rattle.model.specs.Writes.{sharedWritten, written}
 use Rattle.model.specs.Questions.{Question, asked, refusalNumber, numberOf, lengthOf, readQuestions, writeQuestions, levelQuestions, currentQuestions}
 use Rattle.model.specs.Questions.{powerUpQuestions, storeQuestions, readReply, writeReply, levelReply, currentReply, powerUpReply, storeReply}
-use Rattle.model.specs.Calls.{Request, read, write, level, current, tick, sortOf, Answer, Stepped, step, cleared, watchdogPreset, thenPreset, readAs, writtenAs}
+use Rattle.model.specs.Calls.{Request, read, write, level, current, tick, sortOf, Answer, Stepped, step, cleared, watchdogPreset, thenPreset, readAs}
+use Rattle.model.specs.Calls.{writtenAs}
 use Rattle.model.specs.Calls.{plainAnswer, sampledAs, powerUp, poweredUpAs, powerUpAnswer, storeFills, stored, storeAnswer}
 use Rattle.model.specs.Refusals.{Asked, AllYes, FirstNo, Decides, Decided, Refusals, wireRefused, plainlyRefused, refusedBy, InOrder}
 
@@ -112,7 +113,8 @@ number-is : (qs : List Question) (n : ℕ) → numberOf (asked qs (Done n)) ≡ 
 number-is [] n = refl
 number-is (q ∷ qs) n = go (q .yes) (number-is qs n)
   where
-    go : (b : Bool) → numberOf (asked qs (Done n)) ≡ first-no (by-number qs) → numberOf (cond b (asked qs (Done n)) (Refused (q .refusal))) ≡ cond b (first-no (by-number qs)) (refusalNumber (q .refusal))
+    go : (b : Bool) → numberOf (asked qs (Done n)) ≡ first-no (by-number qs) → numberOf (cond b (asked qs (Done n)) (Refused (q .refusal))) ≡ cond b
+        (first-no (by-number qs)) (refusalNumber (q .refusal))
     go true later = later
     go false later = refl
 
@@ -129,11 +131,13 @@ decided =
     }
 
 -- ---- what a refused call leaves
-read-refused : (r : Reply) (p : Place) (lent : List ℕ) (m : Module) (n : ℕ) → numberOf r ≡ suc n → thenPreset (readAs r p lent (cleared m)) ≡ wireRefused m (suc n) lent
+read-refused : (r : Reply) (p : Place) (lent : List ℕ) (m : Module) (n : ℕ) → numberOf r ≡ suc n → thenPreset (readAs r p lent (cleared m)) ≡ wireRefused m
+    (suc n) lent
 read-refused (Done k) p lent m n h = none h
 read-refused (Refused q) p lent m n h = rw h
 
-write-refused : (r : Reply) (p : Place) (bs : List ℕ) (m : Module) (n : ℕ) → numberOf r ≡ suc n → thenPreset (writtenAs r p bs (cleared m)) ≡ wireRefused m (suc n) []
+write-refused : (r : Reply) (p : Place) (bs : List ℕ) (m : Module) (n : ℕ) → numberOf r ≡ suc n → thenPreset (writtenAs r p bs (cleared m)) ≡ wireRefused m
+    (suc n) []
 write-refused (Done k) p bs m n h = none h
 write-refused (Refused q) p bs m n h = rw h
 
@@ -173,7 +177,10 @@ refusals = record { decided = decided; unchanged = unchanged; start = start; sto
 
 -- ---- an instance of every number, by computation
 pub in-order : InOrder
-unfolding step place readReply writeReply levelReply currentReply powerUpReply storeReply powerUpAnswer storeAnswer written sharedWritten cleared watchdogPreset poweredUp Image.configAllowed Image.moduleConfigAllowed Image.sizeRight Image.countsRight Image.sumRight Image.valuesAllowed Image.entriesAllowed Image.entryAllowed Image.encode Image.body Image.entriesBytes Image.entryBytes Image.decode Image.entriesFrom Image.entryFrom number bytesOf signedNumber signedBytes modulo signedBits realFrom realBytes from upTo ofBits toBits ofInt le lt
+unfolding step place readReply writeReply levelReply currentReply powerUpReply storeReply powerUpAnswer storeAnswer written sharedWritten cleared
+    watchdogPreset poweredUp Image.configAllowed Image.moduleConfigAllowed Image.sizeRight Image.countsRight Image.sumRight Image.valuesAllowed
+    Image.entriesAllowed Image.entryAllowed Image.encode Image.body Image.entriesBytes Image.entryBytes Image.decode Image.entriesFrom Image.entryFrom number
+    bytesOf signedNumber signedBytes modulo signedBits realFrom realBytes from upTo ofBits toBits ofInt le lt
 in-order =
     record {
       number1 = λ m. refl;

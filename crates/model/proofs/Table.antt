@@ -9,7 +9,8 @@ use Rattle.numbers.specs.Written.{from, below}
 use Rattle.model.specs.Settings.{functionOf, output}
 use Rattle.model.specs.Channel.{changed, simulate, takeOut, takeControl, clearActs, flagRegWritten}
 use Rattle.model.specs.Registers.{place}
-use Rattle.model.specs.Tick.{saveDue, tickShared, runsOut, tickService, shutDown, timersRun, oneShot, dutyCycle, overloaded, guarded, driven, lookDue, looked, judged, saved, reviewed, ticked}
+use Rattle.model.specs.Tick.{saveDue, tickShared, runsOut, tickService, shutDown, timersRun, oneShot, dutyCycle, overloaded, guarded, driven, lookDue}
+use Rattle.model.specs.Tick.{looked, judged, saved, reviewed, ticked}
 use Rattle.model.specs.Image.{restored, poweredUp}
 use Rattle.model.specs.Writes.{digitalWritten, written}
 use Rattle.model.specs.Reads.{digitalBytes, bytesRead, afterRead}
@@ -18,7 +19,10 @@ use Rattle.model.specs.Calls.{cleared, watchdogPreset, step, run}
 use Rattle.model.specs.Table.{ProvedTable}
 
 pub proved-table : ProvedTable
-unfolding ofBits toBits ofInt le bytesOf number realBytes realOf digitalBytes bytesRead afterRead readReply wrapped larger signedNumber freeRunTick watchdogTick outTimerTick feedbackTick isNegative isPositive realFrom whole countOf from below functionOf output changed simulate takeOut takeControl clearActs flagRegWritten place saveDue tickShared runsOut tickService shutDown timersRun oneShot dutyCycle overloaded guarded driven lookDue looked judged saved reviewed ticked restored poweredUp digitalWritten written writeReply cleared watchdogPreset step run
+unfolding ofBits toBits ofInt le bytesOf number realBytes realOf digitalBytes bytesRead afterRead readReply wrapped larger signedNumber freeRunTick
+    watchdogTick outTimerTick feedbackTick isNegative isPositive realFrom whole countOf from below functionOf output changed simulate takeOut takeControl
+    clearActs flagRegWritten place saveDue tickShared runsOut tickService shutDown timersRun oneShot dutyCycle overloaded guarded driven lookDue looked judged
+    saved reviewed ticked restored poweredUp digitalWritten written writeReply cleared watchdogPreset step run
 proved-table =
     record {
       row1 = refl;

@@ -19,7 +19,8 @@ pub record ComeBack : Type 0 where
   pub bytes : (bs : List ℕ) → length bs ≡ 4 → T (areBytes bs) → T (not (isNan (realFrom bs))) → realBytes (realFrom bs) ≡ bs
   pub not-a-number : (bs : List ℕ) → T (isNan (realFrom bs)) → realBytes (realFrom bs) ≡ 0x7F ∷ 0xC0 ∷ 0 ∷ 0 ∷ []
 
--- What is written stays in the bits of its count. A preset's count is not negative. `fits binary32 x` says that x is a Real of 32 bits, which all that the wire brings is.
+-- What is written stays in the bits of its count. A preset's count is not negative. `fits binary32 x` says that x is a Real of 32 bits, which all that the
+-- wire brings is.
 pub record WritesHeld : Type 0 where
   pub wire : (bs : List ℕ) → T (fits binary32 (realFrom bs))
   pub timers : (x : Float) → T (fits binary32 x) → T (timerAllowed x) → SFits w32 (countOf timerUnits x)

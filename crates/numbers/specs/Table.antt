@@ -1,4 +1,5 @@
--- Document 01, "The proved table", rows 1 to 7, as one fact about the definitions. Words of 32 bits are written as the paper writes them; proofs/Table.antt computes each row.
+-- Document 01, "The proved table", rows 1 to 7, as one fact about the definitions. Words of 32 bits are written as the paper writes them; proofs/Table.antt
+-- computes each row.
 use mathlib.Core.Path.{_≡_}
 use mathlib.Core.Bool.{true, false}
 use Prim.Native.Nat.{ℕ}

@@ -4,7 +4,8 @@ ghost use mathlib.Core.Path.{_≡_};
 ghost use mathlib.Core.Bool.{false};
 ghost use mathlib.Core.List.{[]};
 ghost use Rattle.model.specs.Calls.{read, write, level, current, tick, step, cleared, watchdogPreset};
-ghost use Rattle.pd3120.specs.Answers.{stepOf, sampleOf, tickOf, ReadBy, outputAt, requestOf, answerBuffer, lentAfter, RecordBy, SharedBy, PoweredUp, StoredBy};
+ghost use Rattle.pd3120.specs.Answers.{stepOf, sampleOf, tickOf, ReadBy, outputAt, requestOf, answerBuffer, lentAfter, RecordBy, SharedBy, PoweredUp};
+ghost use Rattle.pd3120.specs.Answers.{StoredBy};
 
 pub mod replies;
 pub mod samples;

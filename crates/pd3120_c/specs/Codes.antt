@@ -66,7 +66,8 @@ doneBy s = record { after = s .box; code = answerCode (s .answer) }
 
 -- a sample's channel put back at place i of every module that has it there
 abbrev pub SampleLeft : Request → Shared → Channel → ℕ → ChannelDone → Type 0
-SampleLeft x s ch i d = (m : Module) → m .shared ≡ s → getD (m .channels) i nothing ≡ ch → Left (step m x) (withChannels (set (m .channels) i (d .after)) m) (d .code)
+SampleLeft x s ch i d = (m : Module) → m .shared ≡ s → getD (m .channels) i nothing ≡ ch → Left (step m x) (withChannels (set (m .channels) i (d .after)) m)
+    (d .code)
 
 -- the two parts of the module that a read may change, put back
 abbrev pub ReadLeft : Module → ℕ → List ℕ → ReadDone → List ℕ → Type 0

@@ -57,7 +57,13 @@ pub(crate) fn perform(m: Module, line: Line, bytes: &mut [u8]) -> Answered {
         Line::Write(swno) => write(m, swno, bytes),
         Line::Level(channel, on) => make(m, Call::Level(channel, on), 1, b"", bytes),
         Line::Current(channel, real) => {
-            make(m, Call::Current(channel, reals::of_bits(real)), 1, b"", bytes)
+            make(
+                m,
+                Call::Current(channel, reals::of_bits(real)),
+                1,
+                b"",
+                bytes,
+            )
         }
         Line::Tick(n) => make(m, Call::Tick, n, b"", bytes),
     }

@@ -1,7 +1,8 @@
 // What a channel's settings say: Functions, Enablebit, references, InA and InB, Output. ChConfig is
 // held as its bytes, and decoded here, where it acts.
 ghost use mathlib.Core.Path.{_≡_};
-ghost use Rattle.model.specs.Settings.{functionOf, notInput, isSpecial, referenceOf, isSet, functions, refA, refB, hasReference, simulatesInput, simulatesFeedback, enablesUnderload, silencesOverload, levelOf, inA, inB, output};
+ghost use Rattle.model.specs.Settings.{functionOf, notInput, isSpecial, referenceOf, isSet, functions, refA, refB, hasReference, simulatesInput};
+ghost use Rattle.model.specs.Settings.{simulatesFeedback, enablesUnderload, silencesOverload, levelOf, inA, inB, output};
 use model::Channel;
 use model::Function;
 use model::Reference;

@@ -21,7 +21,13 @@ simulate-requires c κs = search needs
 
 returns : tie.Need-returns
 unfolding flagRegWritten
-returns c = simp (c .simulate .ensures, c .before .change .ensures, c .before .before .take-control .ensures, c .before .before .before .take-out .ensures, c .before .before .before .before .clear-acts .ensures)
+returns c = simp (
+  c .simulate .ensures,
+  c .before .change .ensures,
+  c .before .before .take-control .ensures,
+  c .before .before .before .take-out .ensures,
+  c .before .before .before .before .clear-acts .ensures,
+)
 
 pub write-flag-reg-spec : {M : Type 1} → statement M
 write-flag-reg-spec =

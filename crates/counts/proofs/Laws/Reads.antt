@@ -13,6 +13,7 @@ pub stepped : (g : ℤ → ℤ) (n r : ℤ) → SFits w32 n → SFits w32 r → 
 stepped g n r N R e = toZ-ofZ w32 r R ∙ e ∙ ap g (toZ-ofZ w32 n N)
 
 -- the timer of the count that a call chose
-pub chosen-timer : (b : Bool) (x y : TimerCount) {r : ℤ} → r ≡ cond b (toZ w32 (ofZ w32 (x .0))) (toZ w32 (ofZ w32 (y .0))) → SFits w32 (x .0) → SFits w32 (y .0) → SFits w32 r → timer (toZ w32 (ofZ w32 r)) ≡ cond b x y
+pub chosen-timer : (b : Bool) (x y : TimerCount) {r : ℤ} → r ≡ cond b (toZ w32 (ofZ w32 (x .0))) (toZ w32 (ofZ w32 (y .0))) → SFits w32 (x .0) → SFits w32
+    (y .0) → SFits w32 r → timer (toZ w32 (ofZ w32 r)) ≡ cond b x y
 chosen-timer true x y {r} e X Y R = ap timer (stepped (λ (z : ℤ). z) (x .0) r X R e)
 chosen-timer false x y {r} e X Y R = ap timer (stepped (λ (z : ℤ). z) (y .0) r Y R e)

@@ -12,7 +12,8 @@ wrapping-add-i32-requires c κs = search needs
 
 returns : tie.Need-returns
 unfolding counterStep
-returns c = stepped (λ (z : ℤ). wrapped 32 (z +ℤ pos 1)) (c .before .args .n) (c .wrapping-add-i32 .result) (c .before .fits .n) (record { sfits = c .wrapping-add-i32 .ok }) (c .wrapping-add-i32 .ensures)
+returns c = stepped (λ (z : ℤ). wrapped 32 (z +ℤ pos 1)) (c .before .args .n) (c .wrapping-add-i32 .result) (c .before .fits .n)
+    (record { sfits = c .wrapping-add-i32 .ok }) (c .wrapping-add-i32 .ensures)
 
 pub counter-step-spec : {M : Type 1} → statement M
 counter-step-spec = tie.close (tie.spec wrapping-add-i32-requires returns)

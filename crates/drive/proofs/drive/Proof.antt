@@ -24,7 +24,14 @@ guard-requires c κs = search needs
 
 returns : tie.Need-returns
 unfolding driven
-returns c = simp (c .guard .ensures, c .before .change .ensures, c .before .before .special .ensures, c .before .before .before .functions .ensures, c .before .before .before .before .run-timers .ensures, c .before .before .before .before .before .shut-down .ensures)
+returns c = simp (
+  c .guard .ensures,
+  c .before .change .ensures,
+  c .before .before .special .ensures,
+  c .before .before .before .functions .ensures,
+  c .before .before .before .before .run-timers .ensures,
+  c .before .before .before .before .before .shut-down .ensures,
+)
 
 pub drive-spec : {M : Type 1} → statement M
 drive-spec =

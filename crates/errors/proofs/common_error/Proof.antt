@@ -45,7 +45,13 @@ returns c m v n e =
     let w = c .before .before .before .before .args .w in
     let his : w .his ≡ wordOf (map hasHis cs) = ap (λ (x : ErrorWords). x .his) e in
     let act : w .act ≡ wordOf (map hasAct cs) = ap (λ (x : ErrorWords). x .act) e in
-    simp (v, c .com-bytes2 .ensures hasAct cs n act, c .before .com-bytes .ensures hasHis cs n his, c .before .before .service-byte2 .ensures hasAct cs n act, c .before .before .before .service-byte .ensures hasHis cs n his)
+    simp (
+      v,
+      c .com-bytes2 .ensures hasAct cs n act,
+      c .before .com-bytes .ensures hasHis cs n his,
+      c .before .before .service-byte2 .ensures hasAct cs n act,
+      c .before .before .before .service-byte .ensures hasHis cs n his,
+    )
 
 pub common-error-spec : {M : Type 1} → statement M
 common-error-spec =

@@ -24,7 +24,8 @@ i32-of-bytes-requires : tie.Need-i32-of-bytes-requires
 i32-of-bytes-requires c κs = search needs
 
 returns : tie.Need-returns
-returns c = let s = c .before .before .before .before .before .before in toZ-ofZ {w = w32} {z = c .i32-of-bytes .result} (search needs) ∙ c .i32-of-bytes .ensures ∙ ap signedNumber (sym (whole 4 (s .args .b .now) (s .pre)))
+returns c = let s = c .before .before .before .before .before .before in toZ-ofZ {w = w32} {z = c .i32-of-bytes .result} (search needs)
+    ∙ c .i32-of-bytes .ensures ∙ ap signedNumber (sym (whole 4 (s .args .b .now) (s .pre)))
 
 pub signed-from-spec : {M : Type 1} → statement M
 signed-from-spec =

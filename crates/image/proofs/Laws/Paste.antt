@@ -24,7 +24,8 @@ unfolding pasted
 pasted-length d at b h = simp (length-append, length-take, length-drop) (omega arith)
 
 -- a piece next to what was written before makes one piece with it
-pub pasted-twice : (d : List ℕ) (at : ℕ) (a : List ℕ) (from : ℕ) (b : List ℕ) → at + length a ≡ from → from + length b ≤ length d → pasted (pasted d at a) from b ≡ pasted d at (a ++ b)
+pub pasted-twice : (d : List ℕ) (at : ℕ) (a : List ℕ) (from : ℕ) (b : List ℕ) → at + length a ≡ from → from + length b ≤ length d → pasted
+    (pasted d at a) from b ≡ pasted d at (a ++ b)
 unfolding pasted
 pasted-twice d at a from b e h =
     let x = drop from d in
@@ -40,12 +41,14 @@ pasted-twice d at a from b e h =
     rw (e, ends, front, back) (simp append-assoc)
 
 -- the same, step by step: b is d with a written over it, and c is b with x
-pub pasted-next : {b c : List ℕ} (d : List ℕ) (at : ℕ) (a : List ℕ) (from : ℕ) (x : List ℕ) → b ≡ pasted d at a → c ≡ pasted b from x → at + length a ≡ from → from + length x ≤ length d
+pub pasted-next : {b c : List ℕ} (d : List ℕ) (at : ℕ) (a : List ℕ) (from : ℕ) (x : List ℕ) → b ≡ pasted d at a → c ≡ pasted b from x → at + length a ≡ from
+    → from + length x ≤ length d
     → c ≡ pasted d at (a ++ x)
 pasted-next d at a from x e f g h = f ∙ ap (λ (l : List ℕ). pasted l from x) e ∙ pasted-twice d at a from x g h
 
 -- one more byte is copied
-pub pasted-more : (d : List ℕ) (at : ℕ) (s : List ℕ) (j : ℕ) → at + j < length d → j < length s → set (pasted d at (take j s)) (at + j) (getD s j 0) ≡ pasted d at (take (j + 1) s)
+pub pasted-more : (d : List ℕ) (at : ℕ) (s : List ℕ) (j : ℕ) → at + j < length d → j < length s → set (pasted d at (take j s)) (at + j) (getD s j 0)
+    ≡ pasted d at (take (j + 1) s)
 unfolding pasted
 pasted-more d at s j h k =
     let m : length (take j s) ≡ j = length-take-le j s (omega arith) in

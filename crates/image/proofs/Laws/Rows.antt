@@ -35,7 +35,8 @@ allowed-more (suc i) l =
     let e : 44 + 44 * i ≡ 44 * suc i = omega arith in
     ap (λ (b : Bool). entryAllowed (take 44 l) && b) (allowed-more i (drop 44 l))
     ∙ and-assoc (entryAllowed (take 44 l)) (entriesAllowed i (drop 44 l)) _
-    ∙ ap (λ (r : List ℕ). (entryAllowed (take 44 l) && entriesAllowed i (drop 44 l)) && entryAllowed (take 44 r)) (drop-drop (44 * i) 44 l ∙ ap (λ (k : ℕ). drop k l) e)
+    ∙ ap (λ (r : List ℕ). (entryAllowed (take 44 l) && entriesAllowed i (drop 44 l)) && entryAllowed (take 44 r))
+    (drop-drop (44 * i) 44 l ∙ ap (λ (k : ℕ). drop k l) e)
 
 -- one more entry is written
 pub entries-more : (es : List Entry) (i : ℕ) (d : Entry) → i < length es → entriesBytes (take (suc i) es) ≡ entriesBytes (take i es) ++ entryBytes (getD es i d)

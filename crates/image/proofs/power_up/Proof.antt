@@ -15,7 +15,8 @@ is-done-requires : tie.Need-is-done-requires
 is-done-requires c κs = search needs
 
 box-of-requires : tie.Need-box-of-requires
-box-of-requires c κs = done-long (c .before .before .before .before .args .img .now) (sym (c .before .is-done .ensures ∙ ap accepted (c .before .before .power-up-reply .ensures)) ∙ c .if1 .taken)
+box-of-requires c κs = done-long (c .before .before .before .before .args .img .now)
+    (sym (c .before .is-done .ensures ∙ ap accepted (c .before .before .power-up-reply .ensures)) ∙ c .if1 .taken)
 
 returns : tie.Need-returns
 unfolding powerUp

@@ -19,7 +19,8 @@ modulo-bits w (negsuc n) F = ap (λ (k : ℕ). 2 ^ bits w - suc k) (mod-eq-of-lt
 
 pub bits-signed : (w : Width) (n : ℕ) → Fits w n → signedBits (bits w) n ≡ toZ w n
 unfolding signedBits
-bits-signed w n F = ap (λ (k : ℕ). cond (ltb n (2 ^ k)) (pos n) (negℤ (pos (2 ^ bits w - n)))) less ∙ ap (cond (ltb n (2 ^ hbits w)) (pos n)) (ap (λ (k : ℕ). negℤ (pos k)) more) ∙ same (ltb n (2 ^ hbits w))
+bits-signed w n F = ap (λ (k : ℕ). cond (ltb n (2 ^ k)) (pos n) (negℤ (pos (2 ^ bits w - n)))) less ∙ ap (cond (ltb n (2 ^ hbits w)) (pos n))
+    (ap (λ (k : ℕ). negℤ (pos k)) more) ∙ same (ltb n (2 ^ hbits w))
   where
     less : bits w - 1 ≡ hbits w
     less = omega (arith, bits-suc w)
@@ -36,7 +37,8 @@ plus-minus : (a b : ℕ) → modulo (pos a +ℤ negsuc b) 4294967296 ≡ (a % 42
 unfolding modulo
 plus-minus a b = go (ltb a (suc b)) (ltb→lt a (suc b)) (nltb→le a (suc b))
   where
-    go : (t : Bool) → (T t → a < suc b) → (T (not t) → suc b ≤ a) → modulo (cond t (negsuc (suc b - suc a)) (pos (a - suc b))) 4294967296 ≡ (a % 4294967296 + (4294967296 - suc (b % 4294967296))) % 4294967296
+    go : (t : Bool) → (T t → a < suc b) → (T (not t) → suc b ≤ a) → modulo (cond t (negsuc (suc b - suc a)) (pos (a - suc b))) 4294967296 ≡
+        (a % 4294967296 + (4294967296 - suc (b % 4294967296))) % 4294967296
     go true h k = let l = h tt in omega arith
     go false h k = let l = k tt in omega arith
 
@@ -56,7 +58,8 @@ modulo-lt (negsuc n) m M = omega arith
 pub modulo-sub : (a b : ℤ) (r : ℕ) → r < 4294967296 → (r + modulo b 4294967296) % 4294967296 ≡ modulo a 4294967296 → r ≡ modulo (a -ℤ b) 4294967296
 modulo-sub a b r R e =
     let back : (a -ℤ b) +ℤ b ≡ a = +ℤ-assoc a (negℤ b) b ∙ ap (λ (z : ℤ). a +ℤ z) (+ℤ-invl b) ∙ +ℤ-idr a in
-    let d : (modulo (a -ℤ b) 4294967296 + modulo b 4294967296) % 4294967296 ≡ modulo a 4294967296 = sym (modulo-add (a -ℤ b) b) ∙ ap (λ (z : ℤ). modulo z 4294967296) back in
+    let d : (modulo (a -ℤ b) 4294967296 + modulo b 4294967296) % 4294967296 ≡ modulo a 4294967296 = sym (modulo-add (a -ℤ b) b) ∙ ap
+    (λ (z : ℤ). modulo z 4294967296) back in
     cancel r (modulo (a -ℤ b) 4294967296) (modulo b 4294967296) R (modulo-lt (a -ℤ b) 4294967296 (lit< tt)) (modulo-lt b 4294967296 (lit< tt)) (e ∙ sym d)
   where
     cancel : (x y m : ℕ) → x < 4294967296 → y < 4294967296 → m < 4294967296 → (x + m) % 4294967296 ≡ (y + m) % 4294967296 → x ≡ y

@@ -18,7 +18,8 @@ use Rattle.numbers.specs.Written.{limitAllowed}
 use Rattle.model.specs.Reads.{configBytes}
 use Rattle.model.specs.Image.{Entry, entryBytes, part, configFrom, entryFrom, configAllowed, presetCountAllowed, entryAllowed}
 use Rattle.model.proofs.Images.Tests.{both, join}
-use Rattle.model.proofs.Images.Values.{number-fits, number-again, signed-fits, signed-again, signed-back, Preset, preset-from, Limit, limit-from, limit-again, limit-back}
+use Rattle.model.proofs.Images.Values.{number-fits, number-again, signed-fits, signed-again, signed-back, Preset, preset-from, Limit, limit-from}
+use Rattle.model.proofs.Images.Values.{limit-again, limit-back}
 use Rattle.model.proofs.Images.Parts.{bytes-part, part-length, part-more, beside}
 
 -- registers 2, 4 and 5 in their ranges
@@ -70,9 +71,20 @@ module _ (l : List ℕ) (e : length l ≡ 44) (t : T (areBytes l)) (h : T (entry
   real-part at m a = limit-again (part at 4 l) (long at 4 m) (bytes-part at 4 l t) a
 
   -- the ten parts, from the last on
-  parts : part 0 4 l ++ (part 4 4 l ++ (part 8 4 l ++ (part 12 4 l ++ (part 16 4 l ++ (part 20 8 l ++ (part 28 4 l ++ (part 32 4 l ++ (part 36 4 l ++ part 40 4 l)))))))) ≡ l
+  parts : part 0 4 l ++ (part 4 4 l ++ (part 8 4 l ++ (part 12 4 l ++ (part 16 4 l ++
+      (part 20 8 l ++ (part 28 4 l ++ (part 32 4 l ++ (part 36 4 l ++ part 40 4 l)))))))) ≡ l
   parts =
-      rw (part-more 36 4 4 l, part-more 32 4 8 l, part-more 28 4 12 l, part-more 20 8 16 l, part-more 16 4 24 l, part-more 12 4 28 l, part-more 8 4 32 l, part-more 4 4 36 l, part-more 0 4 40 l)
+      rw (
+        part-more 36 4 4 l,
+        part-more 32 4 8 l,
+        part-more 28 4 12 l,
+        part-more 20 8 16 l,
+        part-more 16 4 24 l,
+        part-more 12 4 28 l,
+        part-more 8 4 32 l,
+        part-more 4 4 36 l,
+        part-more 0 4 40 l,
+      )
       (take-all 44 l (omega arith))
 
   -- so the entry gives its bytes again
@@ -139,7 +151,8 @@ module _ (e : Entry) (h : Held e) where
       let maintenance = ap (take 4) after-reals ∙ take-at (e .maintenance) _ 4 (h .maintenance) in
       let user = ap (take 4) after-maintenance ∙ take-at (e .user) _ 4 (h .counts .user-long) in
       let counter = ap (λ (l : List ℕ). signedNumber (take 4 l)) after-user ∙ signed-back (e .counter) (h .counts .counter-fits) in
-      let operating = ap (λ (l : List ℕ). number (take 4 l)) (sym (drop-drop 4 36 (entryBytes e)) ∙ ap (drop 4) after-user) ∙ come-back .numbers 4 (e .operating .0) (h .counts .operating-fits) in
+      let operating = ap (λ (l : List ℕ). number (take 4 l)) (sym (drop-drop 4 36 (entryBytes e)) ∙ ap (drop 4) after-user) ∙ come-back .numbers 4
+      (e .operating .0) (h .counts .operating-fits) in
       λ i.
       record {
         config = e .config;

@@ -13,7 +13,8 @@ use Rattle.integers.proofs.Claims.{come-back}
 use Rattle.integers.proofs.Laws.Bytes.{length-bytes}
 use Rattle.model.specs.declared.Reply.the-variants.{Done}
 use Rattle.model.specs.Reads.{configBytes}
-use Rattle.model.specs.Image.{Setup, entriesBytes, total, body, encode, part, configFrom, entriesFrom, decode, sizeRight, countsRight, sumRight, moduleConfigAllowed, presetCountAllowed, entriesAllowed, valuesAllowed}
+use Rattle.model.specs.Image.{Setup, entriesBytes, total, body, encode, part, configFrom, entriesFrom, decode, sizeRight, countsRight, sumRight}
+use Rattle.model.specs.Image.{moduleConfigAllowed, presetCountAllowed, entriesAllowed, valuesAllowed}
 use Rattle.model.specs.Questions.{powerUpQuestions, powerUpReply}
 use Rattle.model.proofs.Laws.Replies.{asked-yes, yes-asked}
 use Rattle.model.proofs.Images.Tests.{both, join}
@@ -168,7 +169,8 @@ module _ (s : Setup) (h : SetupHeld s) where
       let config : part 1 4 (encode s) ≡ configBytes (s .module-config) = unfold encode body in refl in
       let entries = rw (h .count) at (entries-allowed (s .entries) ((1 ∷ []) ++ sumBytes s) (h .entries)) in
       rw (config, encode-preset, encode-rows)
-      (join (moduleConfigAllowed (configBytes (s .module-config))) _ (h .config) (join (presetCountAllowed (signedBytes 4 (s .wd-preset .0))) _ (h .preset .allowed) entries))
+      (join (moduleConfigAllowed (configBytes (s .module-config))) _ (h .config)
+      (join (presetCountAllowed (signedBytes 4 (s .wd-preset .0))) _ (h .preset .allowed) entries))
 
   -- and is accepted
   pub encode-accepted : powerUpReply (encode s) ≡ Done 0

@@ -1,4 +1,5 @@
--- Two boxes that are alike for a channel c, where ns are the channels that c may name: their shared records are equal, and so are c itself and, of each channel that c
+-- Two boxes that are alike for a channel c, where ns are the channels that c may name: their shared records are equal, and so are c itself and, of each
+-- channel that c
 -- may name, what decides its InFlag. Each rule keeps boxes alike. Assumes nothing.
 use mathlib.Core.Path.{_≡_, refl, sym, _∙_, ap, subst}
 use mathlib.Core.Logic.{_≢_}
@@ -20,7 +21,8 @@ use Rattle.model.specs.declared.DigitalRegister.{DigitalRegister}
 use Rattle.model.specs.declared.CommonRegister.{CommonRegister}
 use Rattle.model.specs.declared.Reference.the-variants.{None, Channel as ToChannel}
 use Rattle.model.specs.declared.ServiceRegister.the-variants.{Highest, Reset, FreeRunTimer, WDTimer, ModuleConfig, WDPreset, WriteEnable, CommonError}
-use Rattle.model.specs.declared.DigitalRegister.the-variants.{FlagReg, OutTimer, Counter, OutCurrent, OperatingTime, UserBytes, FBTimer, FBPreset, OutPreset, ChConfig, MinCurrent, MaxCurrent, UserReals, Maintenance, ChError}
+use Rattle.model.specs.declared.DigitalRegister.the-variants.{FlagReg, OutTimer, Counter, OutCurrent, OperatingTime, UserBytes, FBTimer, FBPreset}
+use Rattle.model.specs.declared.DigitalRegister.the-variants.{OutPreset, ChConfig, MinCurrent, MaxCurrent, UserReals, Maintenance, ChError}
 use Rattle.model.specs.declared.CommonRegister.the-variants.{OutFlags, InFlags, IOChError, ChError as CommonChError}
 use Rattle.model.specs.State.{nothing, inFlag, outFlag, channelAt, putChannel, setFBStatus}
 use Rattle.model.specs.Settings as Settings
@@ -35,7 +37,8 @@ use Rattle.model.specs.TwoLists.{namesOf, names, among, stranger}
 use Rattle.model.proofs.Laws.Tests.{either, both, left, right, range}
 use Rattle.model.proofs.Laws.Lists.{length-each, at-each, at-map}
 use Rattle.model.proofs.Laws.Places.{place-cases}
-use Rattle.model.proofs.Laws.Inputs.{Inputs, inputs, taken, simulated, in-driven, in-tick, given, kept-if, write-in, in-written, in-read, every-in, in-every, common-in, in-common}
+use Rattle.model.proofs.Laws.Inputs.{Inputs, inputs, taken, simulated, in-driven, in-tick, given, kept-if, write-in, in-written, in-read, every-in}
+use Rattle.model.proofs.Laws.Inputs.{in-every, common-in, in-common}
 
 -- ---- names
 abbrev pub Within : List ℕ → List ℕ → Type 0
@@ -159,7 +162,8 @@ module _ (c : ℕ) (ns : List ℕ) where
   held-common CommonChError bs i n h = h
 
   -- a write of ChConfig names what its bytes name
-  held-written : (r : DigitalRegister) (enabled : Bool) (bs : List ℕ) → (digitalRow r .number ≡ 9 → Within ns (names (Image.configFrom bs))) → (n : Inputs) → Held n → Held (write-in r enabled bs n)
+  held-written : (r : DigitalRegister) (enabled : Bool) (bs : List ℕ) → (digitalRow r .number ≡ 9 → Within ns (names (Image.configFrom bs))) → (n : Inputs)
+      → Held n → Held (write-in r enabled bs n)
   unfolding write-in kept-if
   held-written FlagReg en bs w n h = held-taken simulated _ n h
   held-written OutTimer en bs w n h = h
@@ -179,16 +183,26 @@ module _ (c : ℕ) (ns : List ℕ) where
 
   module _ (1≤c : 1 ≤ c) (m m′ : Module) (a : Alike m m′) where
     -- an accepted write, at any register, on both sides
-    pub written-alike : (n : ℕ) (bs : List ℕ) → (n ≡ c * 0x10 + 0x9 → Within ns (names (Image.configFrom bs))) → Alike (Writes.written (place n) bs m) (Writes.written (place n) bs m′)
+    pub written-alike : (n : ℕ) (bs : List ℕ) → (n ≡ c * 0x10 + 0x9 → Within ns (names (Image.configFrom bs))) → Alike (Writes.written (place n) bs m)
+        (Writes.written (place n) bs m′)
     unfolding Writes.written
     written-alike n bs w =
         place-cases (λ p. Alike (Writes.written p bs m) (Writes.written p bs m′)) n a
-        (λ e r q. (ap (Writes.sharedWritten r bs) (a .0), channels-map _ _ (λ i x y h. near-by (Writes.everyWritten r) (every-in r) (in-every r) (λ p. held-every r) h) (a .1)))
-        (λ e r q. (a .0, channels-each _ (λ i x y h. near-by (Writes.commonWritten r bs i) (common-in r bs i) (in-common r bs i) (λ p. held-common r bs i) h) (a .1)))
+        (λ e r q. (
+          ap (Writes.sharedWritten r bs) (a .0),
+          channels-map _ _
+              (λ i x y h. near-by (Writes.everyWritten r) (every-in r) (in-every r) (λ p. held-every r) h) (a .1),
+        ))
+        (λ e r q. (
+          a .0,
+          channels-each _ (λ i x y h. near-by (Writes.commonWritten r bs i) (common-in r bs i) (in-common r bs i) (λ p. held-common r bs i) h)
+              (a .1),
+        ))
         (λ l₁ l₂ r q. (
           a .0,
           rw (← a .0)
-              (channels-set (n / 16 - 1) _ _ (λ l. near-by (Writes.digitalWritten r (m .shared) bs) (write-in r (m .shared .«write_enable») bs) (in-written r _ bs) (λ e. held-written r _ bs (λ z. w (omega arith))) (a .1 .near _ l)) (a .1)),
+              (channels-set (n / 16 - 1) _ _ (λ l. near-by (Writes.digitalWritten r (m .shared) bs) (write-in r (m .shared .«write_enable») bs)
+              (in-written r _ bs) (λ e. held-written r _ bs (λ z. w (omega arith))) (a .1 .near _ l)) (a .1)),
         ))
 
     pub read-alike : (n : ℕ) → Alike (Reads.afterRead (place n) m) (Reads.afterRead (place n) m′)
@@ -208,7 +222,8 @@ module _ (c : ℕ) (ns : List ℕ) where
     unfolding referenceOf
     level-alike b w = go (Settings.isDigital b) refl w
       where
-        go : (t : Bool) → Settings.isDigital b ≡ t → Within ns (namesOf (cond t (ToChannel b) None)) → levelOf (levels m) (cond t (ToChannel b) None) ≡ levelOf (levels m′) (cond t (ToChannel b) None)
+        go : (t : Bool) → Settings.isDigital b ≡ t → Within ns (namesOf (cond t (ToChannel b) None)) → levelOf (levels m) (cond t (ToChannel b) None)
+            ≡ levelOf (levels m′) (cond t (ToChannel b) None)
         go true e v =
             let (l₁, l₂) = range b e in
             ap (λ (x : Bool). Settings.isDigital b && x)
@@ -220,14 +235,17 @@ module _ (c : ℕ) (ns : List ℕ) where
     -- InA and InB of a channel whose references are among ns
     pub inA-alike : (ch : Channel) → Held (inputs ch) → Settings.inA (levels m) ch ≡ Settings.inA (levels m′) ch
     unfolding Settings.inA names
-    inA-alike ch h = ap (λ (x : Bool). cond (Settings.simulatesFeedback ch) (outFlag ch) x) (level-alike (ch .config .«ref_a») (within-append ns (namesOf (referenceOf (ch .config .«ref_a»))) (namesOf (referenceOf (ch .config .«ref_b»))) h .0))
+    inA-alike ch h = ap (λ (x : Bool). cond (Settings.simulatesFeedback ch) (outFlag ch) x)
+        (level-alike (ch .config .«ref_a») (within-append ns (namesOf (referenceOf (ch .config .«ref_a»))) (namesOf (referenceOf (ch .config .«ref_b»))) h .0))
 
     pub inB-alike : (ch : Channel) → Held (inputs ch) → Settings.inB (levels m) ch ≡ Settings.inB (levels m′) ch
     unfolding Settings.inB names
-    inB-alike ch h = ap (λ (x : Bool). cond (Settings.simulatesFeedback ch) (not (outFlag ch)) x) (level-alike (ch .config .«ref_b») (within-append ns (namesOf (referenceOf (ch .config .«ref_a»))) (namesOf (referenceOf (ch .config .«ref_b»))) h .1))
+    inB-alike ch h = ap (λ (x : Bool). cond (Settings.simulatesFeedback ch) (not (outFlag ch)) x)
+        (level-alike (ch .config .«ref_b») (within-append ns (namesOf (referenceOf (ch .config .«ref_a»))) (namesOf (referenceOf (ch .config .«ref_b»))) h .1))
 
     -- a register of c reads the same
-    bytes-alike : (r : DigitalRegister) → Near (c - 1) (channelAt m c) (channelAt m′ c) → Reads.digitalBytes r (levels m) (channelAt m c) ≡ Reads.digitalBytes r (levels m′) (channelAt m′ c)
+    bytes-alike : (r : DigitalRegister) → Near (c - 1) (channelAt m c) (channelAt m′ c) → Reads.digitalBytes r (levels m) (channelAt m c)
+        ≡ Reads.digitalBytes r (levels m′) (channelAt m′ c)
     unfolding Reads.digitalBytes Reads.flagReg
     bytes-alike FlagReg h = rw (inA-alike (channelAt m c) (h .held refl), inB-alike (channelAt m c) (h .held refl), h .same refl)
     bytes-alike OutTimer h = rw (h .same refl)
@@ -269,7 +287,8 @@ module _ (c : ℕ) (ns : List ℕ) where
           ap Tick.tickShared (a .0),
           rw (← a .0, ← e) (channels-map _ _ (λ i x y h.
               record {
-                same = λ p. reviewed-alike s due (Tick.driven s out x) (subst Held (sym (in-driven s out x)) (h .held p)) ∙ ap (λ (z : Channel). Tick.reviewed s due (levels m′) (Tick.driven s out z)) (h .same p);
+                same = λ p. reviewed-alike s due (Tick.driven s out x) (subst Held (sym (in-driven s out x)) (h .held p)) ∙ ap
+                    (λ (z : Channel). Tick.reviewed s due (levels m′) (Tick.driven s out z)) (h .same p);
                 held = λ p. subst Held (sym (in-tick s due (levels m) out x)) (held-kept due (inputs x) (h .held p));
                 seen = λ t. in-tick s due (levels m) out x ∙ ap (kept-if due) (h .seen t) ∙ sym (in-tick s due (levels m′) out y);
               }) (a .1)),
@@ -278,17 +297,22 @@ module _ (c : ℕ) (ns : List ℕ) where
     -- a change to a stranger, on one side
     pub put-stranger : (k : ℕ) (ch : Channel) → stranger c ns k ≡ true → Alike (putChannel k ch m) m′
     put-stranger k ch e =
-        let h = stranger-facts c ns k e in
-        (a .0, channels-left (k - 1) ch (λ p. h .other (omega (arith, h .low))) (λ u. h .unnamed (subst (λ (j : ℕ). T (among j ns)) (omega (arith, h .low)) u)) (a .1))
+        let h = stranger-facts c ns k e in (
+          a .0,
+          channels-left (k - 1) ch (λ p. h .other (omega (arith, h .low)))
+              (λ u. h .unnamed (subst (λ (j : ℕ). T (among j ns)) (omega (arith, h .low)) u)) (a .1),
+        )
 
     pub written-stranger : (n : ℕ) (bs : List ℕ) → stranger c ns (n / 16) ≡ true → Alike (Writes.written (place n) bs m) m′
     unfolding Writes.written
     written-stranger n bs e =
         let h = stranger-facts c ns (n / 16) e in
-        place-cases (λ p. Alike (Writes.written p bs m) m′) n a (λ z r q. absurd (omega (arith, h .low))) (λ z r q. absurd (omega (arith, h .high))) (λ l₁ l₂ r q. put-stranger (n / 16) _ e)
+        place-cases (λ p. Alike (Writes.written p bs m) m′) n a (λ z r q. absurd (omega (arith, h .low))) (λ z r q. absurd (omega (arith, h .high)))
+        (λ l₁ l₂ r q. put-stranger (n / 16) _ e)
 
     pub read-stranger : (n : ℕ) → stranger c ns (n / 16) ≡ true → Alike (Reads.afterRead (place n) m) m′
     unfolding Reads.afterRead
     read-stranger n e =
         let h = stranger-facts c ns (n / 16) e in
-        place-cases (λ p. Alike (Reads.afterRead p m) m′) n a (λ z r q. absurd (omega (arith, h .low))) (λ z r q. absurd (omega (arith, h .high))) (λ l₁ l₂ r q. put-stranger (n / 16) _ e)
+        place-cases (λ p. Alike (Reads.afterRead p m) m′) n a (λ z r q. absurd (omega (arith, h .low))) (λ z r q. absurd (omega (arith, h .high)))
+        (λ l₁ l₂ r q. put-stranger (n / 16) _ e)

@@ -32,7 +32,8 @@ unfolding filled
 none g p [] ys e = refl
 none g p (x ∷ xs) [] e = refl
 none {B = B} g p (x ∷ xs) (y ∷ ys) e =
-    ap₂ (λ (b : Bool) (r : List B). cond b (g 0 x) y ∷ r) (e 0 (zero-lt-suc _)) (none (λ (j : ℕ). g (suc j)) (λ (j : ℕ). p (suc j)) xs ys (λ j l. e (suc j) (omega arith)))
+    ap₂ (λ (b : Bool) (r : List B). cond b (g 0 x) y ∷ r) (e 0 (zero-lt-suc _))
+    (none (λ (j : ℕ). g (suc j)) (λ (j : ℕ). p (suc j)) xs ys (λ j l. e (suc j) (omega arith)))
 
 -- the place n is done too, after those of p
 pub one-more : {A B : Type 0} (g : ℕ → A → B) (p q : ℕ → Bool) (n : ℕ) (xs : List A) (ys : List B) (d : A) → n < length xs → n < length ys
@@ -41,10 +42,12 @@ unfolding filled
 one-more g p q n [] ys d h l t e = absurd (not-suc-le-zero h)
 one-more g p q n (x ∷ xs) [] d h l t e = absurd (not-suc-le-zero l)
 one-more {B = B} g p q zero (x ∷ xs) (y ∷ ys) d h l t e =
-    ap₂ (λ (b : Bool) (r : List B). cond b (g 0 x) y ∷ r) (sym t) (alike (λ (j : ℕ). g (suc j)) (λ (j : ℕ). p (suc j)) (λ (j : ℕ). q (suc j)) xs ys (λ j. e (suc j) (λ z. omega (arith, z))))
+    ap₂ (λ (b : Bool) (r : List B). cond b (g 0 x) y ∷ r) (sym t) (alike (λ (j : ℕ). g (suc j)) (λ (j : ℕ). p (suc j)) (λ (j : ℕ). q (suc j)) xs ys
+    (λ j. e (suc j) (λ z. omega (arith, z))))
 one-more {B = B} g p q (suc n) (x ∷ xs) (y ∷ ys) d h l t e =
     ap₂ (λ (b : Bool) (r : List B). cond b (g 0 x) y ∷ r) (e 0 (λ z. omega (arith, z)))
-    (one-more (λ (j : ℕ). g (suc j)) (λ (j : ℕ). p (suc j)) (λ (j : ℕ). q (suc j)) n xs ys d (le-of-suc-le-suc h) (le-of-suc-le-suc l) t (λ j f. e (suc j) (λ z. f (omega (arith, z)))))
+    (one-more (λ (j : ℕ). g (suc j)) (λ (j : ℕ). p (suc j)) (λ (j : ℕ). q (suc j)) n xs ys d (le-of-suc-le-suc h) (le-of-suc-le-suc l) t
+    (λ j f. e (suc j) (λ z. f (omega (arith, z)))))
 
 -- a place that is not done is as it was
 pub untouched : {A B : Type 0} (g : ℕ → A → B) (p : ℕ → Bool) (n : ℕ) (xs : List A) (ys : List B) (d : B) → p n ≡ false → getD (filled p g xs ys) n d ≡ getD ys n d
@@ -68,7 +71,8 @@ all f p [] [] s e = refl
 all f p [] (y ∷ ys) s e = absurd (omega (arith, s))
 all f p (x ∷ xs) [] s e = absurd (omega (arith, s))
 all {B = B} f p (x ∷ xs) (y ∷ ys) s e =
-    ap₂ (λ (b : Bool) (r : List B). cond b (f x) y ∷ r) (e 0 (zero-lt-suc _)) (all f (λ (j : ℕ). p (suc j)) xs ys (omega (arith, s)) (λ j l. e (suc j) (omega arith)))
+    ap₂ (λ (b : Bool) (r : List B). cond b (f x) y ∷ r) (e 0 (zero-lt-suc _))
+    (all f (λ (j : ℕ). p (suc j)) xs ys (omega (arith, s)) (λ j l. e (suc j) (omega arith)))
 
 -- ---- the two orders of a loop: from the first place up, the places below k are done; from the last down, those from k on
 abbrev pub below : ℕ → ℕ → Bool
@@ -101,4 +105,5 @@ all-each f g p i (x ∷ xs) [] s e q = absurd (omega (arith, s))
 all-each f g p i (x ∷ xs) (y ∷ ys) s e q =
     let h : g 0 ≡ f i = q 0 ∙ ap f (omega arith) in
     ap₂ (λ (c : Channel) (r : List Channel). c ∷ r) (ap (λ (b : Bool). cond b (g 0 x) y) (e 0 (zero-lt-suc _)) ∙ ap (λ (k : Channel → Channel). k x) h)
-    (all-each f (λ (j : ℕ). g (suc j)) (λ (j : ℕ). p (suc j)) (suc i) xs ys (omega (arith, s)) (λ j l. e (suc j) (omega arith)) (λ j. q (suc j) ∙ ap f (omega arith)))
+    (all-each f (λ (j : ℕ). g (suc j)) (λ (j : ℕ). p (suc j)) (suc i) xs ys (omega (arith, s)) (λ j l. e (suc j) (omega arith))
+    (λ j. q (suc j) ∙ ap f (omega arith)))

@@ -1,4 +1,5 @@
--- What decides a channel's InFlag and Counter, with the references that it names: the part of a channel that another may learn, and that a list of calls tells. For each rule,
+-- What decides a channel's InFlag and Counter, with the references that it names: the part of a channel that another may learn, and that a list of calls
+-- tells. For each rule,
 -- what it does to that part. Assumes nothing.
 use mathlib.Core.Path.{_≡_, refl, _∙_, ap}
 use mathlib.Core.Bool.{Bool, true, false, cond, not, _&&_, Bool·beq}
@@ -18,7 +19,8 @@ use Rattle.model.specs.declared.DigitalRegister.{DigitalRegister}
 use Rattle.model.specs.declared.CommonRegister.{CommonRegister}
 use Rattle.model.specs.declared.Function.the-variants.{Input, Output, OneShot, DutyCycle, Timer}
 use Rattle.model.specs.declared.ServiceRegister.the-variants.{Highest, Reset, FreeRunTimer, WDTimer, ModuleConfig, WDPreset, WriteEnable, CommonError}
-use Rattle.model.specs.declared.DigitalRegister.the-variants.{FlagReg, OutTimer, Counter, OutCurrent, OperatingTime, UserBytes, FBTimer, FBPreset, OutPreset, ChConfig, MinCurrent, MaxCurrent, UserReals, Maintenance, ChError}
+use Rattle.model.specs.declared.DigitalRegister.the-variants.{FlagReg, OutTimer, Counter, OutCurrent, OperatingTime, UserBytes, FBTimer, FBPreset}
+use Rattle.model.specs.declared.DigitalRegister.the-variants.{OutPreset, ChConfig, MinCurrent, MaxCurrent, UserReals, Maintenance, ChError}
 use Rattle.model.specs.declared.CommonRegister.the-variants.{OutFlags, InFlags, IOChError, ChError as CommonChError}
 use Rattle.model.specs.State.{outFlag, inFlag, control, outTimer, setInFlag, setFBStatus, setOutCurrent, withCounter}
 use Rattle.model.specs.Settings as Settings
@@ -61,7 +63,8 @@ in-becomes : (b : Bool) (ch : Channel) → inputs (Rules.inputBecomes b ch) ≡ 
 unfolding Rules.inputBecomes given
 in-becomes b ch = go (b && not (inFlag ch))
   where
-    go : (t : Bool) → inputs (setInFlag b (cond t (withCounter (counterStep (ch .counter)) ch) ch)) ≡ record { level = b; config = ch .config; counter = cond t (counterStep (ch .counter)) (ch .counter); kept = ch .kept .counter }
+    go : (t : Bool) → inputs (setInFlag b (cond t (withCounter (counterStep (ch .counter)) ch) ch))
+        ≡ record { level = b; config = ch .config; counter = cond t (counterStep (ch .counter)) (ch .counter); kept = ch .kept .counter }
     go true = refl
     go false = refl
 
@@ -227,7 +230,8 @@ unfolding kept-if
 in-keepCounter true ch = refl
 in-keepCounter false ch = refl
 
-pub in-written : (r : DigitalRegister) (s : Shared) (bs : List ℕ) (ch : Channel) → inputs (Writes.digitalWritten r s bs ch) ≡ write-in r (s .«write_enable») bs (inputs ch)
+pub in-written : (r : DigitalRegister) (s : Shared) (bs : List ℕ) (ch : Channel) → inputs (Writes.digitalWritten r s bs ch) ≡ write-in r
+    (s .«write_enable») bs (inputs ch)
 unfolding write-in Writes.digitalWritten Rules.chConfigWritten
 in-written FlagReg s bs ch = in-flagReg _ ch
 in-written OutTimer s bs ch = refl

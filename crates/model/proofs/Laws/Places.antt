@@ -25,4 +25,5 @@ unfolding place
 place-cases Q n qu qs qc qd =
     by-test Q (eqb (n / 16) 0) (λ e. find-cases Q service serviceRow (n % 16) serviceRegisters qu (qs (eqb-true _ _ e))) (λ e.
     by-test Q (eqb (n / 16) 17) (λ e₁. find-cases Q common commonRow (n % 16) commonRegisters qu (qc (eqb-true _ _ e₁))) (λ e₁.
-    by-test Q (isDigital (n / 16)) (λ d. let (p, q) = range (n / 16) d in find-cases Q (digital (n / 16)) digitalRow (n % 16) digitalRegisters qu (qd p q)) (λ d. qu)))
+    by-test Q (isDigital (n / 16)) (λ d. let (p, q) = range (n / 16) d in find-cases Q (digital (n / 16)) digitalRow (n % 16) digitalRegisters qu (qd p q))
+    (λ d. qu)))

@@ -31,11 +31,13 @@ sign-test per (inf true) = refl
 sign-test per (inf false) = refl
 sign-test per (fin false m e) = ap (λ (b : Bool). signed b (whole (m * up e * per) (down e))) (le-ltb (m * up e * 1) (0 * down e) (nothing (down e) (m * up e * 1)))
 sign-test per (fin true zero e) =
-    let z : whole (0 * up e * per) (down e) ≡ 0 = ap (λ (y : ℕ). whole (y * per) (down e)) (zero-mul (up e)) ∙ ap (λ (y : ℕ). whole y (down e)) (zero-mul per) ∙ whole-small 0 (down e) (down-pos e) in
+    let z : whole (0 * up e * per) (down e) ≡ 0 = ap (λ (y : ℕ). whole (y * per) (down e)) (zero-mul (up e)) ∙ ap (λ (y : ℕ). whole y (down e)) (zero-mul per)
+    ∙ whole-small 0 (down e) (down-pos e) in
     ap (signed (ltb 0 (0 * up e * 1 + 0 * down e))) z ∙ no-sign (ltb 0 (0 * up e * 1 + 0 * down e)) ∙ sym (ap (λ (y : ℕ). negℤ (pos y)) z)
 sign-test per (fin true (suc m) e) =
     ap (λ (b : Bool). signed b (whole (suc m * up e * per) (down e)))
-    (lt-ltb 0 (suc m * up e * 1 + 0 * down e) (lt-of-lt-of-le (lt-of-lt-of-le (mul-pos (zero-lt-suc m) (up-pos e)) (le-of-eq (sym (mul-one (suc m * up e))))) (le-add-right (suc m * up e * 1) (0 * down e))))
+    (lt-ltb 0 (suc m * up e * 1 + 0 * down e) (lt-of-lt-of-le (lt-of-lt-of-le (mul-pos (zero-lt-suc m) (up-pos e)) (le-of-eq (sym (mul-one (suc m * up e)))))
+    (le-add-right (suc m * up e * 1) (0 * down e))))
 
 -- ---- a magnitude below 2 ^ 32 in a signed local of 64 bits, and less than 0
 mag-minus : (n : ℕ) → n < 4294967296 → mag (negℤ (pos n)) < 9223372036854775808

@@ -1,10 +1,12 @@
--- A finite Real's size in units of 2 ^ -u as a whole number, from the fields of its bits, for a u up to 8: it is s * 256 / 2 ^ (158 - u - x), with x the exponent's field and s the 24 digits.
+-- A finite Real's size in units of 2 ^ -u as a whole number, from the fields of its bits, for a u up to 8: it is s * 256 / 2 ^ (158 - u - x), with x the
+-- exponent's field and s the 24 digits.
 -- Of the definition `whole` this uses the two laws `whole-same` and `whole-small` alone. Assumes nothing.
 use mathlib.Core.Path.{_≡_, refl, sym, ap, _∙_, subst}
 use mathlib.Core.Logic.{_⊎_, inl, inr}
 use mathlib.Core.Bool.{Bool, true, false, not, cond}
 use Prim.Native.Nat.{ℕ, zero, suc, _+_, _-_, _*_, _/_, _%_, _^_, _≤_, _<_, zero-le}
-use native.Mathlib.Nat.{le-trans, le-of-eq, lt-of-lt-of-le, lt-of-le-of-lt, lt-of-not-le, not-le-of-lt, mul-assoc, mul-one, one-mul, mul-right-comm, mul-le-mul-right, mul-le-mul-left, mul-lt-mul-of-pos-right, lt-of-mul-lt-mul-right, mod-lt, mod-eq-of-lt, le-add-right}
+use native.Mathlib.Nat.{le-trans, le-of-eq, lt-of-lt-of-le, lt-of-le-of-lt, lt-of-not-le, not-le-of-lt, mul-assoc, mul-one, one-mul, mul-right-comm}
+use native.Mathlib.Nat.{mul-le-mul-right, mul-le-mul-left, mul-lt-mul-of-pos-right, lt-of-mul-lt-mul-right, mod-lt, mod-eq-of-lt, le-add-right}
 use native.Mathlib.Omega.{arith}
 use lib.Dec.{T, leb, leb→le, nleb→lt, eqb, ltb→lt, lit<, lit≤}
 use lib.Pow.{pow-add, pow-pos, pow-mono, pow-lt, mod-mod-pow}
@@ -26,7 +28,8 @@ unfolding ofFields digits
 fields-value s zero t h = odd-sign 24 s t 0 149
 fields-value s (suc x) t h = go (eqb (suc x) 255) (eqb t 0) h
   where
-    go : (a b : Bool) → T (finite (cond a (cond b (inf s) nan) (odd 24 s (8388608 + t) x 149))) → HasValue (cond a (cond b (inf s) nan) (odd 24 s (8388608 + t) x 149)) s ((8388608 + t) * 2 ^ x) (2 ^ 149)
+    go : (a b : Bool) → T (finite (cond a (cond b (inf s) nan) (odd 24 s (8388608 + t) x 149))) → HasValue
+        (cond a (cond b (inf s) nan) (odd 24 s (8388608 + t) x 149)) s ((8388608 + t) * 2 ^ x) (2 ^ 149)
     go true true k = absurd k
     go true false k = absurd k
     go false b k = odd-sign 24 s (8388608 + t) x 149
@@ -82,13 +85,15 @@ pow-step a b k h = mul-lt-mul-of-pos-right h (pow-pos k)
 
 small : (x t u : ℕ) → u ≤ 8 → t < 8388608 → x < 100 → digits x t * 2 ^ u * 2 < 2 ^ 149
 unfolding digits
-small zero t u U H X = lt-of-lt-of-le (mul-lt-mul-of-pos-right (lt-of-lt-of-le (pow-step (t * 1) 8388608 u (lt-of-le-of-lt (le-of-eq (mul-one t)) H)) (le-of-eq (sym (pow-add 2 23 u)))) (lit< tt)) (le-trans (mul-le-mul-right 2 (pow-mono e)) (lit≤ tt))
+small zero t u U H X = lt-of-lt-of-le (mul-lt-mul-of-pos-right (lt-of-lt-of-le (pow-step (t * 1) 8388608 u (lt-of-le-of-lt (le-of-eq (mul-one t)) H))
+    (le-of-eq (sym (pow-add 2 23 u)))) (lit< tt)) (le-trans (mul-le-mul-right 2 (pow-mono e)) (lit≤ tt))
   where
     e : 23 + u ≤ 100
     e = omega arith
 small (suc x) t u U H X =
     lt-of-lt-of-le
-    (mul-lt-mul-of-pos-right (lt-of-lt-of-le (pow-step ((8388608 + t) * 2 ^ x) (16777216 * 2 ^ x) u (pow-step (8388608 + t) 16777216 x d)) (le-of-eq (ap (λ (y : ℕ). y * 2 ^ u) (sym (pow-add 2 24 x)) ∙ sym (pow-add 2 (24 + x) u)))) (lit< tt))
+    (mul-lt-mul-of-pos-right (lt-of-lt-of-le (pow-step ((8388608 + t) * 2 ^ x) (16777216 * 2 ^ x) u (pow-step (8388608 + t) 16777216 x d))
+    (le-of-eq (ap (λ (y : ℕ). y * 2 ^ u) (sym (pow-add 2 24 x)) ∙ sym (pow-add 2 (24 + x) u)))) (lit< tt))
     (le-trans (mul-le-mul-right 2 (pow-mono e)) (lit≤ tt))
   where
     d : 8388608 + t < 16777216
@@ -106,7 +111,10 @@ shifted zero t u U L X = absurd (no L)
     no h = omega arith
 shifted (suc x) t u U L X =
     whole-same ((8388608 + t) * 256) (2 ^ (158 - u - suc x)) ((8388608 + t) * 2 ^ x * 2 ^ u) (2 ^ 149) (pow-pos (158 - u - suc x)) (pow-pos 149)
-    (mul-assoc (8388608 + t) 256 (2 ^ 149) ∙ ap (λ (y : ℕ). (8388608 + t) * 2 ^ y) e ∙ ap (λ (y : ℕ). (8388608 + t) * y) (pow-add 2 (x + u) (158 - u - suc x) ∙ ap (λ (y : ℕ). y * 2 ^ (158 - u - suc x)) (pow-add 2 x u)) ∙ sym (mul-assoc (8388608 + t) (2 ^ x * 2 ^ u) (2 ^ (158 - u - suc x))) ∙ ap (λ (y : ℕ). y * 2 ^ (158 - u - suc x)) (sym (mul-assoc (8388608 + t) (2 ^ x) (2 ^ u))))
+    (mul-assoc (8388608 + t) 256 (2 ^ 149) ∙ ap (λ (y : ℕ). (8388608 + t) * 2 ^ y) e ∙ ap (λ (y : ℕ). (8388608 + t) * y)
+    (pow-add 2 (x + u) (158 - u - suc x) ∙ ap (λ (y : ℕ). y * 2 ^ (158 - u - suc x)) (pow-add 2 x u)) ∙ sym
+    (mul-assoc (8388608 + t) (2 ^ x * 2 ^ u) (2 ^ (158 - u - suc x))) ∙ ap (λ (y : ℕ). y * 2 ^ (158 - u - suc x))
+    (sym (mul-assoc (8388608 + t) (2 ^ x) (2 ^ u))))
   where
     e : 157 ≡ x + u + (158 - u - suc x)
     e = omega arith

@@ -2,7 +2,8 @@
 use mathlib.Core.Path.{_≡_, refl, sym, ap, _∙_, subst}
 use mathlib.Core.Bool.{Bool, true, false, _&&_, _||_}
 use Prim.Native.Nat.{ℕ, zero, suc, _+_, _*_, _^_, _≤_, _<_}
-use native.Mathlib.Nat.{le-trans, le-of-eq, lt-of-lt-of-le, lt-of-le-of-lt, one-mul, mul-one, zero-mul, mul-right-comm, mul-le-mul-right, mul-lt-mul-of-pos-right, mul-pos}
+use native.Mathlib.Nat.{le-trans, le-of-eq, lt-of-lt-of-le, lt-of-le-of-lt, one-mul, mul-one, zero-mul, mul-right-comm, mul-le-mul-right}
+use native.Mathlib.Nat.{mul-lt-mul-of-pos-right, mul-pos}
 use native.Mathlib.Omega.{arith}
 use lib.Dec.{T, ltb, eqb, ltb→lt, lt→ltb, eqb→eq, lit<, lit≤}
 use lib.IntN.{ℤ, pos, negℤ}
@@ -78,7 +79,8 @@ natural-count per nan l = refl
 natural-count per (inf s) l = refl
 natural-count per (fin false m e) l = refl
 natural-count per (fin true m e) l =
-    let z : whole (m * up e * per) (down e) ≡ 0 = ap (λ (y : ℕ). whole (y * per) (down e)) (none m e l) ∙ ap (λ (y : ℕ). whole y (down e)) (zero-mul per) ∙ whole-small 0 (down e) (down-pos e) in
+    let z : whole (m * up e * per) (down e) ≡ 0 = ap (λ (y : ℕ). whole (y * per) (down e)) (none m e l) ∙ ap (λ (y : ℕ). whole y (down e)) (zero-mul per)
+    ∙ whole-small 0 (down e) (down-pos e) in
     ap pos z ∙ sym (ap (λ (y : ℕ). negℤ (pos y)) z)
 
 -- ---- OutTimer and FBTimer: −8388608 ≤ x < 8388608
@@ -99,10 +101,12 @@ timer-under (inf true) t = t
 timer-under (inf false) t = both (from (negℤ (pos 8388608)) (inf false)) (below (pos 8388608) (inf false)) t .1
 timer-under (fin false m e) t =
     lt→ltb (m * up e * 256) (4294967296 * down e)
-    (wider (m * up e * 256) (down e) (down-pos e) (weaken (m * up e * 256) (2147483648 * down e) (scaled-below 256 8388608 m e (upper 23 m e (both (from (negℤ (pos 8388608)) (fin false m e)) (below (pos 8388608) (fin false m e)) t .1)) (lit< tt))))
+    (wider (m * up e * 256) (down e) (down-pos e) (weaken (m * up e * 256) (2147483648 * down e)
+    (scaled-below 256 8388608 m e (upper 23 m e (both (from (negℤ (pos 8388608)) (fin false m e)) (below (pos 8388608) (fin false m e)) t .1)) (lit< tt))))
 timer-under (fin true m e) t =
     lt→ltb (m * up e * 256) (4294967296 * down e)
-    (wider (m * up e * 256) (down e) (down-pos e) (scaled-up-to 256 8388608 m e (lower 23 m e (both (from (negℤ (pos 8388608)) (fin true m e)) (below (pos 8388608) (fin true m e)) t .0))))
+    (wider (m * up e * 256) (down e) (down-pos e) (scaled-up-to 256 8388608 m e
+    (lower 23 m e (both (from (negℤ (pos 8388608)) (fin true m e)) (below (pos 8388608) (fin true m e)) t .0))))
 
 pub timer-fits : (x : Float) → T (fits binary32 x) → T (timerAllowed x) → SFits w32 (countOf 256 x)
 unfolding countOf unitsOf from below ofInt le lt under
@@ -110,8 +114,16 @@ timer-fits nan F t = absurd t
 timer-fits (inf true) F t = absurd t
 timer-fits (inf false) F t = absurd (both (from (negℤ (pos 8388608)) (inf false)) (below (pos 8388608) (inf false)) t .1)
 timer-fits (fin false m e) F t =
-    record { sfits = units-31 (fin false m e) 8 F (lit≤ tt) (lt→ltb (m * up e * 256) (2147483648 * down e) (scaled-below 256 8388608 m e (upper 23 m e (both (from (negℤ (pos 8388608)) (fin false m e)) (below (pos 8388608) (fin false m e)) t .1)) (lit< tt))) (timer-under (fin false m e) t) }
-timer-fits (fin true m e) F t = record { sfits = mag-minus (whole (m * up e * 256) (down e)) (whole-up-to (m * up e * 256) (down e) 2147483648 (down-pos e) (scaled-up-to 256 8388608 m e (lower 23 m e (both (from (negℤ (pos 8388608)) (fin true m e)) (below (pos 8388608) (fin true m e)) t .0)))) }
+    record {
+      sfits = units-31 (fin false m e) 8 F (lit≤ tt) (lt→ltb (m * up e * 256) (2147483648 * down e)
+          (scaled-below 256 8388608 m e (upper 23 m e (both (from (negℤ (pos 8388608)) (fin false m e)) (below (pos 8388608) (fin false m e)) t .1)) (lit< tt)))
+          (timer-under (fin false m e) t);
+    }
+timer-fits (fin true m e) F t = record {
+  sfits = mag-minus (whole (m * up e * 256) (down e))
+      (whole-up-to (m * up e * 256) (down e) 2147483648 (down-pos e) (scaled-up-to 256 8388608 m e
+      (lower 23 m e (both (from (negℤ (pos 8388608)) (fin true m e)) (below (pos 8388608) (fin true m e)) t .0))));
+}
 
 -- ---- WDTimer and the presets: 0 ≤ x < 8388608
 less : (a b : ℕ) (c : Bool) → a < b → T (ltb a b || c)

@@ -1,10 +1,12 @@
--- n / 2 ^ u as a Real of 32 bits, for an n from 1 up and below 2 ^ 32 with z leading zeros and a u up to 8. Moved up by z places n has 32 digits, of which the Real keeps 24, rounded: that is q.
+-- n / 2 ^ u as a Real of 32 bits, for an n from 1 up and below 2 ^ 32 with z leading zeros and a u up to 8. Moved up by z places n has 32 digits, of which
+-- the Real keeps 24, rounded: that is q.
 -- The exponent's field, less one for the leading digit, is 157 - u - z. Where q is 2 ^ 24, the sum of the two carries into the exponent. Assumes nothing.
 use mathlib.Core.Path.{_≡_, refl, sym, ap, _∙_, subst}
 use mathlib.Core.Logic.{inl, inr}
 use mathlib.Core.Bool.{Bool, true, false, not, cond}
 use Prim.Native.Nat.{ℕ, suc, _+_, _-_, _*_, _/_, _%_, _^_, _≤_, _<_, compare}
-use native.Mathlib.Nat.{le-trans, le-of-eq, lt-of-lt-of-le, lt-of-le-of-lt, eq-or-lt-of-le, mul-assoc, mul-comm, mul-le-mul-right, mul-lt-mul-of-pos-right, mul-div-cancel, mul-pos, pow-suc, mod-eq-of-lt, zero-mul, eq-zero-or-pos}
+use native.Mathlib.Nat.{le-trans, le-of-eq, lt-of-lt-of-le, lt-of-le-of-lt, eq-or-lt-of-le, mul-assoc, mul-comm, mul-le-mul-right, mul-lt-mul-of-pos-right}
+use native.Mathlib.Nat.{mul-div-cancel, mul-pos, pow-suc, mod-eq-of-lt, zero-mul, eq-zero-or-pos}
 use native.Mathlib.Omega.{arith}
 use lib.Dec.{T, lit<}
 use lib.Count.{leadingZeros, leading-top}
@@ -35,8 +37,10 @@ one-more k h = omega arith
 carry : (h q k : ℕ) → 2 ^ 23 ≤ q → q ≤ 2 ^ 24 → h + (size (q * 2 ^ k) - 24) * 8388608 + q * 2 ^ k / 2 ^ (size (q * 2 ^ k) - 24) ≡ h + k * 8388608 + q
 carry h q k lo hi = elim (eq-or-lt-of-le hi) [
   | inl e ↦
-      let d : size (q * 2 ^ k) - 24 ≡ suc k = ap (λ (x : ℕ). size x - 24) (ap (λ (x : ℕ). x * 2 ^ k) e ∙ sym (pow-add 2 24 k)) ∙ ap (λ (x : ℕ). x - 24) (size-is (2 ^ (24 + k)) (24 + k) (le-of-eq refl) (pow-lt (omega arith))) ∙ keep-25 k in
-      let g : q * 2 ^ k ≡ 8388608 * 2 ^ suc k = ap (λ (x : ℕ). x * 2 ^ k) e ∙ mul-assoc 8388608 2 (2 ^ k) ∙ ap (λ (x : ℕ). 8388608 * x) (mul-comm 2 (2 ^ k) ∙ sym (pow-suc 2 k)) in
+      let d : size (q * 2 ^ k) - 24 ≡ suc k = ap (λ (x : ℕ). size x - 24) (ap (λ (x : ℕ). x * 2 ^ k) e ∙ sym (pow-add 2 24 k)) ∙ ap (λ (x : ℕ). x - 24)
+      (size-is (2 ^ (24 + k)) (24 + k) (le-of-eq refl) (pow-lt (omega arith))) ∙ keep-25 k in
+      let g : q * 2 ^ k ≡ 8388608 * 2 ^ suc k = ap (λ (x : ℕ). x * 2 ^ k) e ∙ mul-assoc 8388608 2 (2 ^ k) ∙ ap (λ (x : ℕ). 8388608 * x)
+      (mul-comm 2 (2 ^ k) ∙ sym (pow-suc 2 k)) in
       ap (λ (x : ℕ). h + x * 8388608 + q * 2 ^ k / 2 ^ x) d
       ∙ ap (λ (x : ℕ). h + suc k * 8388608 + x) (ap (λ (x : ℕ). x / 2 ^ suc k) g ∙ mul-div-cancel 8388608 (pow-pos (suc k)))
       ∙ one-more k h
@@ -77,13 +81,15 @@ module _ (n u z j : ℕ) (U : u ≤ 8) (Z : z + suc j ≡ 32) (lo : 2 ^ j ≤ n)
 
   -- how many digits `round` drops
   drop-is : drop 24 (n * 2 ^ 149) (2 ^ u) ≡ 157 - u - z
-  drop-is = ap (λ (x : ℕ). x - 24) (ap size (ap (λ (x : ℕ). n * 2 ^ x / 2 ^ u) v ∙ ap (λ (x : ℕ). x / 2 ^ u) (ap (λ (x : ℕ). n * x) (pow-add 2 (149 - u) u) ∙ sym (mul-assoc n (2 ^ (149 - u)) (2 ^ u))) ∙ mul-div-cancel (n * 2 ^ (149 - u)) (pow-pos u)) ∙ s) ∙ e
+  drop-is = ap (λ (x : ℕ). x - 24) (ap size (ap (λ (x : ℕ). n * 2 ^ x / 2 ^ u) v ∙ ap (λ (x : ℕ). x / 2 ^ u)
+      (ap (λ (x : ℕ). n * x) (pow-add 2 (149 - u) u) ∙ sym (mul-assoc n (2 ^ (149 - u)) (2 ^ u))) ∙ mul-div-cancel (n * 2 ^ (149 - u)) (pow-pos u)) ∙ s) ∙ e
     where
       v : 149 ≡ 149 - u + u
       v = omega arith
 
       s : size (n * 2 ^ (149 - u)) ≡ suc (j + (149 - u))
-      s = size-is (n * 2 ^ (149 - u)) (j + (149 - u)) (le-trans (le-of-eq (pow-add 2 j (149 - u))) (mul-le-mul-right (2 ^ (149 - u)) lo)) (lt-of-lt-of-le (mul-lt-mul-of-pos-right hi (pow-pos (149 - u))) (le-of-eq (sym (pow-add 2 (suc j) (149 - u)) ∙ ap (λ (x : ℕ). 2 ^ x) t)))
+      s = size-is (n * 2 ^ (149 - u)) (j + (149 - u)) (le-trans (le-of-eq (pow-add 2 j (149 - u))) (mul-le-mul-right (2 ^ (149 - u)) lo))
+          (lt-of-lt-of-le (mul-lt-mul-of-pos-right hi (pow-pos (149 - u))) (le-of-eq (sym (pow-add 2 (suc j) (149 - u)) ∙ ap (λ (x : ℕ). 2 ^ x) t)))
         where
           t : suc j + (149 - u) ≡ suc (j + (149 - u))
           t = omega arith
@@ -92,26 +98,30 @@ module _ (n u z j : ℕ) (U : u ≤ 8) (Z : z + suc j ≡ 32) (lo : 2 ^ j ≤ n)
       e = omega arith
 
   kept-is : kept 24 (n * 2 ^ 149) (2 ^ u) ≡ closest (n * 2 ^ z) 256
-  kept-is = ap (λ (x : ℕ). closest (n * 2 ^ 149) (2 ^ u * 2 ^ x)) drop-is ∙ closest-same (n * 2 ^ 149) (2 ^ u * 2 ^ (157 - u - z)) (n * 2 ^ z) 256 (mul-pos (pow-pos u) (pow-pos (157 - u - z))) (lit< tt) cross
+  kept-is = ap (λ (x : ℕ). closest (n * 2 ^ 149) (2 ^ u * 2 ^ x)) drop-is ∙ closest-same (n * 2 ^ 149) (2 ^ u * 2 ^ (157 - u - z)) (n * 2 ^ z) 256
+      (mul-pos (pow-pos u) (pow-pos (157 - u - z))) (lit< tt) cross
     where
       all : 157 ≡ z + (u + (157 - u - z))
       all = omega arith
 
       cross : n * 2 ^ 149 * 256 ≡ n * 2 ^ z * (2 ^ u * 2 ^ (157 - u - z))
-      cross = mul-assoc n (2 ^ 149) 256 ∙ ap (λ (x : ℕ). n * 2 ^ x) all ∙ ap (λ (x : ℕ). n * x) (pow-add 2 z (u + (157 - u - z)) ∙ ap (λ (x : ℕ). 2 ^ z * x) (pow-add 2 u (157 - u - z))) ∙ sym (mul-assoc n (2 ^ z) (2 ^ u * 2 ^ (157 - u - z)))
+      cross = mul-assoc n (2 ^ 149) 256 ∙ ap (λ (x : ℕ). n * 2 ^ x) all ∙ ap (λ (x : ℕ). n * x)
+          (pow-add 2 z (u + (157 - u - z)) ∙ ap (λ (x : ℕ). 2 ^ z * x) (pow-add 2 u (157 - u - z))) ∙ sym (mul-assoc n (2 ^ z) (2 ^ u * 2 ^ (157 - u - z)))
 
   grid-is : grid binary32 n (2 ^ u) ≡ closest (n * 2 ^ z) 256 * 2 ^ (157 - u - z)
   grid-is = ap (λ (x : ℕ). x * 2 ^ drop 24 (n * 2 ^ 149) (2 ^ u)) kept-is ∙ ap (λ (x : ℕ). closest (n * 2 ^ z) 256 * 2 ^ x) drop-is
 
   in-range : grid binary32 n (2 ^ u) < overflow binary32
-  in-range = lt-of-le-of-lt (le-of-eq grid-is) (lt-of-le-of-lt (mul-le-mul-right (2 ^ (157 - u - z)) digits-high) (lt-of-le-of-lt (le-of-eq (sym (pow-add 2 24 (157 - u - z)))) (pow-lt e)))
+  in-range = lt-of-le-of-lt (le-of-eq grid-is) (lt-of-le-of-lt (mul-le-mul-right (2 ^ (157 - u - z)) digits-high)
+      (lt-of-le-of-lt (le-of-eq (sym (pow-add 2 24 (157 - u - z)))) (pow-lt e)))
     where
       e : 24 + (157 - u - z) < 277
       e = omega arith
 
   pub real-bits : (s : Bool) → toBits binary32 (round binary32 s n (2 ^ u)) ≡ cond s (top binary32) 0 + (157 - u - z) * 8388608 + closest (n * 2 ^ z) 256
   real-bits s =
-      value-bits binary32 (round binary32 s n (2 ^ u)) s (closest (n * 2 ^ z) 256 * 2 ^ (157 - u - z)) (subst (λ (g : ℕ). HasValue (round binary32 s n (2 ^ u)) s g (2 ^ 149)) grid-is (round-value binary32 s n (2 ^ u) in-range))
+      value-bits binary32 (round binary32 s n (2 ^ u)) s (closest (n * 2 ^ z) 256 * 2 ^ (157 - u - z))
+      (subst (λ (g : ℕ). HasValue (round binary32 s n (2 ^ u)) s g (2 ^ 149)) grid-is (round-value binary32 s n (2 ^ u) in-range))
       ∙ carry (cond s (top binary32) 0) (closest (n * 2 ^ z) 256) (157 - u - z) digits-low digits-high
 
   pub real-is : (s : Bool) → ofBits binary32 (cond s 2147483648 0 + (157 - u - z) * 8388608 + closest (n * 2 ^ z) 256) ≡ round binary32 s n (2 ^ u)
@@ -132,7 +142,8 @@ module _ (n u : ℕ) (N : 0 < n) (B : n < 2 ^ 32) (U : u ≤ 8) where
   pub rounded-high : closest (n * 2 ^ leadingZeros 32 n % 18446744073709551616) 256 ≤ 2 ^ 24
   rounded-high = let t = leading-top 32 n N B in rw moved (digits-high n u (leadingZeros 32 n) (t .0) U (t .1) (t .2) (t .3))
 
-  pub real-made : (s : Bool) → ofBits binary32 (cond s 2147483648 0 + (157 - u - leadingZeros 32 n) * 8388608 + closest (n * 2 ^ leadingZeros 32 n % 18446744073709551616) 256) ≡ round binary32 s n (2 ^ u)
+  pub real-made : (s : Bool) → ofBits binary32 (cond s 2147483648 0 + (157 - u - leadingZeros 32 n) * 8388608 + closest
+      (n * 2 ^ leadingZeros 32 n % 18446744073709551616) 256) ≡ round binary32 s n (2 ^ u)
   real-made s = let t = leading-top 32 n N B in rw moved (real-is n u (leadingZeros 32 n) (t .0) U (t .1) (t .2) (t .3) s)
 
 -- zero keeps its sign

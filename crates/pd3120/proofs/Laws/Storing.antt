@@ -14,7 +14,8 @@ use Rattle.model.specs.declared.Reply.the-variants.{Done, Refused}
 use Rattle.model.specs.Questions.{numberOf, storeReply}
 use Rattle.model.specs.Calls.{answerOf, stored, storeAnswer}
 
-pub stored-answer : (m : Module) (lent : List ℕ) (r : Reply) (lent′ : List ℕ) → r ≡ storeReply lent → lent′ ≡ stored m lent → answerOf r lent′ false false ≡ storeAnswer m lent
+pub stored-answer : (m : Module) (lent : List ℕ) (r : Reply) (lent′ : List ℕ) → r ≡ storeReply lent → lent′ ≡ stored m lent → answerOf r lent′ false false
+    ≡ storeAnswer m lent
 unfolding storeAnswer
 stored-answer m lent r lent′ e f = rw (e, f)
 

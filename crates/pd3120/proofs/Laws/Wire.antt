@@ -40,7 +40,8 @@ module _ (m : Module) (n : ℕ) (lent : List ℕ) (l : length (m .channels) ≡ 
         let w = ap (λ (x : Reading). x .words) is-reading in
         rw (i b (sym e) l w, j b (sym e) l w, h ∙ ap (λ (x : Module). bufferOf x n lent) (cleared-box m v e), is-reading)
 
-    pub read-by : ReadBy m (read n lent) (record { service = after; at = d .at; channel = d .channel; reply = d .reply; «data_error» = act; «general_error» = his }) buffer
+    pub read-by : ReadBy m (read n lent)
+        (record { service = after; at = d .at; channel = d .channel; reply = d .reply; «data_error» = act; «general_error» = his }) buffer
     unfolding readingOf
     read-by = (rw f (slot-below n), λ k. record { answer = answer-is k; box = box-is k })
 

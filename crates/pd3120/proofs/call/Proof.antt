@@ -55,10 +55,18 @@ returns-2 : tie.Need-returns-2
 returns-2 c = rw (c .before .before .c2 .given .1) (c .write .ensures, refl)
 
 returns-3 : tie.Need-returns-3
-returns-3 c = rw (c .before .before .before .c3 .given .1) (plain-answer _ (c .before .level .result) (c .plain .result) (c .before .level .ensures) (c .plain .ensures), refl)
+returns-3 c = rw (c .before .before .before .c3 .given .1) (
+  plain-answer _ (c .before .level .result) (c .plain .result) (c .before .level .ensures)
+      (c .plain .ensures),
+  refl,
+)
 
 returns-4 : tie.Need-returns-4
-returns-4 c = rw (c .before .before .before .c4 .given .1) (plain-answer _ (c .before .current .result) (c .plain2 .result) (c .before .current .ensures) (c .plain2 .ensures), refl)
+returns-4 c = rw (c .before .before .before .c4 .given .1) (
+  plain-answer _ (c .before .current .result) (c .plain2 .result) (c .before .current .ensures)
+      (c .plain2 .ensures),
+  refl,
+)
 
 returns-5 : tie.Need-returns-5
 returns-5 c = rw (c .before .before .enum-told .given .1) (plain-answer _ _ (c .plain3 .result) (c .before .tick .ensures) (c .plain3 .ensures), refl)

@@ -37,7 +37,8 @@ returns c =
     let l : length (after .channels) ≡ 16 = rw length-map at (w .ok .1 .1 .1 .0 .1 .1 .1 .1 .0 .1 .0 .1) in
     let words = c .before .before .before .words .ensures in
     write-answer m (s .swno) (s .bytes .now) (boxOf (m .shared) (k .result) (m .channels)) (w .result) _ _ _
-    (cleared-box m (k .result) (k .ensures m refl)) (w .ensures) (rw (c .before .before .preset-watchdog .ensures after refl refl)) (c .before .data-error .ensures after refl l words) (c .general-error .ensures after refl l words)
+    (cleared-box m (k .result) (k .ensures m refl)) (w .ensures) (rw (c .before .before .preset-watchdog .ensures after refl refl))
+    (c .before .data-error .ensures after refl l words) (c .general-error .ensures after refl l words)
 
 pub write-spec : {M : Type 1} → statement M
 write-spec =

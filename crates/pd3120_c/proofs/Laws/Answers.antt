@@ -39,6 +39,7 @@ pub sample-done : (x : Request) (s : Shared) (ch : Channel) (i : ℕ) (t : Taken
 sample-done x s ch i t code h f = λ m e p. let q = h m e p in (ap (λ (z : Stepped). z .box) q, f ∙ ap (λ (z : Stepped). answerCode (z .answer)) q)
 
 -- and of the caller's
-pub sample-left : (x : Request) (m : Module) (k i : ℕ) (d : ChannelDone) → i ≡ sampleSlot k → SampleLeft x (m .shared) (getD (m .channels) i nothing) (sampleSlot k) d
+pub sample-left : (x : Request) (m : Module) (k i : ℕ) (d : ChannelDone) → i ≡ sampleSlot k → SampleLeft x (m .shared) (getD (m .channels) i nothing)
+    (sampleSlot k) d
     → Left (step m x) (withChannels (set (m .channels) i (d .after)) m) (d .code)
 sample-left x m k i d e h = rw e (h m refl (ap (λ (j : ℕ). getD (m .channels) j nothing) (sym e)))

@@ -107,9 +107,19 @@ box = record {
   apart = λ m vs p.
       let f = LL.owed T.the-type T′.the-laws m vs p in (
         own-value shared (m .shared) _ (f .0),
-        (own-value service (m .service) _ (f .1 .0), (each-owned (m .channels) _ (f .1 .1 .0 .1 .1), sym (length-map (m .channels) (Ch.the-type .to)) ∙ f .1 .1 .0 .1 .0 .1)),
+        (
+          own-value service (m .service) _ (f .1 .0),
+          (
+            each-owned (m .channels) _ (f .1 .1 .0 .1 .1),
+            sym (length-map (m .channels) (Ch.the-type .to))
+                ∙ f .1 .1 .0 .1 .0 .1,
+          ),
+        ),
       );
-  whole = λ s v cs p q r n. ((Sh′.lowered s ∷ [], (Sv′.lowered v ∷ [], (_ ∷ [], tt))), (refl, (p, (q, ((map Ch′.lowered cs, ((refl, length-map cs (Ch.the-type .to) ∙ n), owned-each cs r)), tt)))));
+  whole = λ s v cs p q r n. (
+    (Sh′.lowered s ∷ [], (Sv′.lowered v ∷ [], (_ ∷ [], tt))),
+    (refl, (p, (q, ((map Ch′.lowered cs, ((refl, length-map cs (Ch.the-type .to) ∙ n), owned-each cs r)), tt)))),
+  );
   small = tt;
   fits = λ k l. omega (arith, l);
 }

@@ -41,7 +41,8 @@ module _ {M : Type 1} (𝓤 : URA M) (H : Heap 𝓤) (A : Atoms 𝓤) (W : Given
   puts [] k u b o l = absurd (not-suc-le-zero l)
   puts (w ∷ us) zero u b o l = qed W (‵ (fat q τ b o u) ∷ raw (elems 𝓤 H q τ b (o + size τ) us) ∷ []) ∵ frame ! $ done !
   puts (w ∷ us) (suc k) u b o l =
-      qed W (‵ (fat q τ b (place (size τ) (o + size τ) k) u) ∷ (‵ (fat q τ b o w) ⊛ raw (others us k b (o + size τ))) ∷ []) ∵ move ! (1 ∷ []) $ split ! $ move ! (2 ∷ 1 ∷ []) $
+      qed W (‵ (fat q τ b (place (size τ) (o + size τ) k) u) ∷ (‵ (fat q τ b o w) ⊛ raw (others us k b (o + size τ))) ∷ []) ∵ move !
+      (1 ∷ []) $ split ! $ move ! (2 ∷ 1 ∷ []) $
       use2 W (raw (elems 𝓤 H q τ b (o + size τ) (set us k u))) (puts us k u b (o + size τ) (le-of-suc-le-suc l)) $ move ! (1 ∷ []) $ frame ! $ done !
 
 module _ {M : Type 1} {𝓤 : URA M} {H : Heap 𝓤} {A : Atoms 𝓤} {K : Type 0} {W : Given 𝓤 H A} where
@@ -59,7 +60,8 @@ module _ {M : Type 1} {𝓤 : URA M} {H : Heap 𝓤} {A : Atoms 𝓤} {K : Type 
         (subst (λ (m : ℕ). ent 𝓤 (elems 𝓤 H q τ b o (set us k u)) (H .at q (tyArray τ m) b o (vstruct (ofList (set us k u))))) (length-set us k u ∙ e)
         (W .laws .elems-at q τ b o (set us k u))) $
         move ! (1 ∷ []) $ use1 W (raw (Entry (vstruct (ofList (set us k u))))) (allE 𝓤 Entry (vstruct (ofList (set us k u)))) $ move ! (1 ∷ 0 ∷ []) $
-        use2 W (back (vstruct (ofList (set us k u)))) (apply∗ 𝓤 (H .at q (tyArray τ n) b o (vstruct (ofList (set us k u)))) (mean 𝓤 H A (back (vstruct (ofList (set us k u)))))) $
+        use2 W (back (vstruct (ofList (set us k u)))) (apply∗ 𝓤 (H .at q (tyArray τ n) b o (vstruct (ofList (set us k u))))
+        (mean 𝓤 H A (back (vstruct (ofList (set us k u)))))) $
         done !));
     same = ap (λ (ws : List Val). back (vstruct (ofList ws))) (set-getD us k d) ∙ p .same;
   }

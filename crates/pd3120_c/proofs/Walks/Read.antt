@@ -157,7 +157,8 @@ module _ (X Y Z : Plain) (S : Rows X Y Z) (I : Plain) (R : Changes Y Z) where
               move ! (2 ∷ 3 ∷ 6 ∷ 0 ∷ 4 ∷ []) $
               -- [obs; the borrow; the token; what buf owns; its token; true; true]
               enter ! C Λ (fn-of key) (vptr b o ∷ I .val i ∷ s ∷ []) _ $
-              alloc1 ! (λ l₀. alloc1 ! (λ l₁. alloc1 ! (λ l₂. alloc1 ! (λ l₃. alloc1 ! (λ l₄. alloc1 ! (λ l₅. alloc1 ! (λ l₆. alloc1 ! (λ l₇. alloc1 ! (λ l₈. alloc1 ! (λ l₉. alloc1 ! (λ l₁₀. alloc0 ! $
+              alloc1 ! (λ l₀. alloc1 ! (λ l₁. alloc1 ! (λ l₂. alloc1 ! (λ l₃. alloc1 !
+              (λ l₄. alloc1 ! (λ l₅. alloc1 ! (λ l₆. alloc1 ! (λ l₇. alloc1 ! (λ l₈. alloc1 ! (λ l₉. alloc1 ! (λ l₁₀. alloc0 ! $
               params1 ! $
               pass1 ! (init ! 18 refl (tt, tt)) $ pass1 ! (init ! 16 refl (I .typed 𝓤 H A W i i-is)) $
               pass1 ! (init ! 14 refl (tt, (tt, (record { fits = room .0 }, tt)))) $ pass0 ! $
@@ -187,19 +188,22 @@ module _ (X Y Z : Plain) (S : Rows X Y Z) (I : Plain) (R : Changes Y Z) where
               -- [what the answer owns; buf's token; the last bytes; true; the cell; the open borrow; obs; auth; _10; …]
               land ! (from ! (stop !)) (init ! 20 refl (R .typed 𝓤 H A W r w isr)) $
               rewrite ! 20 (λ (u : Val). ‵ (fat fullShare (changes-layout Y Z (R .name)) l₄ 0 u)) (ap only (R .tells r (w ∷ []) isr)) refl $
-              assigns ! (of-opd ! (load ! (from ! (fld ! refl (stop !))) (look-in ! 20 (sub ! 0 refl (whole !))))) (from ! (hop ! (look ! 26 refl) (fld ! refl (stop !))))
+              assigns ! (of-opd ! (load ! (from ! (fld ! refl (stop !))) (look-in ! 20 (sub ! 0 refl (whole !)))))
+              (from ! (hop ! (look ! 26 refl) (fld ! refl (stop !))))
               (store-in ! 4 (sub ! 1 refl (whole !)) (Y .typed 𝓤 H A W (R .second r) (R .fields r (w ∷ []) isr .0))) $
               assigns ! (bin ! (load ! (from ! (fld ! refl (stop !))) (look-in ! 20 (sub ! 2 refl (whole !)))) (lit ! (S .small))
               (record { fits = S .fits (R .at r) (below h i (y .now) r (zs .1 .1 .0) e) })) (from ! (stop !))
               (init ! 12 refl (tt, record { fits = S .fits (R .at r) (below h i (y .now) r (zs .1 .1 .0) e) })) $
               assigns ! (addr ! (from ! (hop ! (look ! 26 refl) (fld ! refl (stop !))))) (from ! (stop !)) (init ! 10 refl (tt, tt)) $
-              assigns ! (bin ! (load ! (from ! (stop !)) (look ! 10 refl)) (load ! (from ! (stop !)) (look ! 12 refl)) tt) (from ! (stop !)) (init ! 8 refl (tt, tt)) $
+              assigns ! (bin ! (load ! (from ! (stop !)) (look ! 10 refl)) (load ! (from ! (stop !)) (look ! 12 refl)) tt) (from ! (stop !))
+              (init ! 8 refl (tt, tt)) $
               assigns ! (of-opd ! (load ! (from ! (fld ! refl (stop !))) (look-in ! 20 (sub ! 1 refl (whole !))))) (from ! (hop ! (look ! 8 refl) (stop !)))
               (store-in ! 4 (elem ! (item-vals X Y Z S h is) (R .at r) (Z .val (S .none)) (within X Y Z S h is (R .at r) (below h i (y .now) r (zs .1 .1 .0) e))
               (long X Y Z S h is) (sub ! 2 refl (whole !))) (Z .typed 𝓤 H A W (R .item r) (R .fields r (w ∷ []) isr .1 .0))) $
               assigns ! (of-opd ! (load ! (from ! (fld ! refl (stop !))) (look-in ! 20 (sub ! 3 refl (whole !))))) (from ! (stop !))
               (init ! 28 refl (tt, record { fits = R .fields r (w ∷ []) isr .1 .1 })) $
-              rewrite ! 4 (λ (ws : List Val). ‵ (fat fullShare (S′ .mir) b o (vstruct (vcons (X .val (S .first h)) (vcons (Y .val (R .second r)) (vcons (vstruct (ofList ws)) vnil))))))
+              rewrite ! 4 (λ (ws : List Val). ‵ (fat fullShare (S′ .mir) b o
+              (vstruct (vcons (X .val (S .first h)) (vcons (Y .val (R .second r)) (vcons (vstruct (ofList ws)) vnil))))))
               (moved Z (S .items h) (R .at r) (R .item r)) refl $ move ! (4 ∷ []) $
               use1 W (‵ (cellAt fullShare (S′ .mir ∷ []) (parts X Y Z (S .first h) (R .second r) (set (S .items h) (R .at r) (R .item r)) ∷ []) b o))
               (W .laws .at-raw fullShare (S′ .mir) b o (parts X Y Z (S .first h) (R .second r) (set (S .items h) (R .at r) (R .item r)))) $
@@ -209,7 +213,9 @@ module _ (X Y Z : Plain) (S : Rows X Y Z) (I : Plain) (R : Changes Y Z) where
               closes ! tt (row S′) (with-parts h r) (parts X Y Z (S .first h) (R .second r) (set (S .items h) (R .at r) (R .item r)) ∷ []) b o $
               -- [obs; the borrow; the token; what the answer owns; buf's token; the last bytes; true; _10; …]
               returns ! (look ! 27 refl) $ forget ! 7 refl $ forget ! 9 refl $ forget ! 11 refl $ forget ! 13 refl $ forget ! 15 refl $ forget ! 17 refl $ forget ! 19 refl $ forget ! 21 refl $ forget ! 23 refl $ forget ! 25 refl $ forget ! 27 refl $
-              move ! (27 ∷ 28 ∷ []) $ free1 ! $ move ! (25 ∷ 26 ∷ []) $ free1 ! $ move ! (23 ∷ 24 ∷ []) $ free1 ! $ move ! (21 ∷ 22 ∷ []) $ free1 ! $ move ! (19 ∷ 20 ∷ []) $ free1 ! $ move ! (17 ∷ 18 ∷ []) $ free1 ! $ move ! (15 ∷ 16 ∷ []) $ free1 ! $ move ! (13 ∷ 14 ∷ []) $ free1 ! $ move ! (11 ∷ 12 ∷ []) $ free1 ! $ move ! (9 ∷ 10 ∷ []) $ free1 ! $ move ! (7 ∷ 8 ∷ []) $ free1 ! $ free0 ! $
+              move ! (27 ∷ 28 ∷ []) $ free1 ! $ move ! (25 ∷ 26 ∷ []) $ free1 ! $ move ! (23 ∷ 24 ∷ []) $ free1 ! $ move ! (21 ∷ 22 ∷ []) $ free1 ! $ move !
+              (19 ∷ 20 ∷ []) $ free1 ! $ move ! (17 ∷ 18 ∷ []) $ free1 ! $ move ! (15 ∷ 16 ∷ []) $ free1 ! $ move ! (13 ∷ 14 ∷ []) $ free1 ! $ move !
+              (11 ∷ 12 ∷ []) $ free1 ! $ move ! (9 ∷ 10 ∷ []) $ free1 ! $ move ! (7 ∷ 8 ∷ []) $ free1 ! $ free0 ! $
               keep ! (0 ∷ 1 ∷ 2 ∷ 4 ∷ 5 ∷ []) $ by ! (exits r (zs .1 .1 .0) e l (R .fields r (w ∷ []) isr .1 .1)))))))))))))))))))))
 
       all-walk : (C : Calls 𝓤 H) (Λ : Loops 𝓤 H) → FmC 𝓤 H (W .laws) C → Triple 𝓤 (C key) (Called P)

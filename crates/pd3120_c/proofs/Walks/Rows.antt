@@ -67,10 +67,12 @@ module _ (A B C : Plain) where
     pub none : C .D
     pub make : A .D → B .D → List (C .D) → D
     pub tells : (x : D) (vs : List Val) → shadow (own x vs) → vs ≡ parts (first x) (second x) (items x) ∷ []
-    pub typed : {M : Type 1} (𝓤 : URA M) (H : Heap 𝓤) (𝓐 : Atoms 𝓤) → Given 𝓤 H 𝓐 → (x : D) (v : Val) → shadow (own x (v ∷ [])) → T (hasTy (layout name count) v) × WT v
+    pub typed : {M : Type 1} (𝓤 : URA M) (H : Heap 𝓤) (𝓐 : Atoms 𝓤) → Given 𝓤 H 𝓐 → (x : D) (v : Val) → shadow (own x (v ∷ [])) → T
+        (hasTy (layout name count) v) × WT v
     pub pure : (x : D) (vs : List Val) → Pure (own x vs)
     pub apart : (x : D) (vs : List Val) → shadow (own x vs)
-        → shadow (A .own (first x) (A .val (first x) ∷ [])) × (shadow (B .own (second x) (B .val (second x) ∷ [])) × (Owned C (items x) × (length (items x) ≡ count)))
+        → shadow (A .own (first x) (A .val (first x) ∷ [])) × (shadow (B .own (second x) (B .val (second x) ∷ [])) ×
+        (Owned C (items x) × (length (items x) ≡ count)))
     pub whole : (a : A .D) (b : B .D) (cs : List (C .D)) → shadow (A .own a (A .val a ∷ [])) → shadow (B .own b (B .val b ∷ [])) → Owned C cs → length cs ≡ count
         → shadow (own (make a b cs) (parts a b cs ∷ []))
     -- an item's size is a number of the machine, and so is each item's place
@@ -109,12 +111,22 @@ module _ (Y Z : Plain) where
     pub code : D → ℕ
     pub tells : (x : D) (vs : List Val) → shadow (own x vs)
         → vs ≡ vstruct (vcons (Y .val (second x)) (vcons (Z .val (item x)) (vcons (vint w64 (at x)) (vcons (vint w32 (code x)) vnil)))) ∷ []
-    pub typed : {M : Type 1} (𝓤 : URA M) (H : Heap 𝓤) (𝓐 : Atoms 𝓤) → Given 𝓤 H 𝓐 → (x : D) (v : Val) → shadow (own x (v ∷ [])) → T (hasTy (changes-layout name) v) × WT v
+    pub typed : {M : Type 1} (𝓤 : URA M) (H : Heap 𝓤) (𝓐 : Atoms 𝓤) → Given 𝓤 H 𝓐 → (x : D) (v : Val) → shadow (own x (v ∷ [])) → T
+        (hasTy (changes-layout name) v) × WT v
     pub fields : (x : D) (vs : List Val) → shadow (own x vs)
         → shadow (Y .own (second x) (Y .val (second x) ∷ [])) × (shadow (Z .own (item x) (Z .val (item x) ∷ [])) × (code x < 2 ^ 32))
 
   abbrev pub changes : Changes → RattleType
-  changes R = record { Denot = R .D; mir = changes-layout (R .name) ∷ []; written = R .written; reaches = R .reaches; own = R .own; exit = λ k. unchanged; coded = R .coded }
+  changes R = record {
+    Denot = R .D;
+    mir = changes-layout (R .name)
+        ∷ [];
+    written = R .written;
+    reaches = R .reaches;
+    own = R .own;
+    exit = λ k. unchanged;
+    coded = R .coded;
+  }
 
 -- ---- of an owned struct h: how many items it has, its parts, and h with the second value and item k anew
 module _ (X Y Z : Plain) (S : Rows X Y Z) (h : S .D) (is : shadow (S .own h (parts X Y Z (S .first h) (S .second h) (S .items h) ∷ []))) where

@@ -2,7 +2,8 @@
 --     pub extern "C" fn f(m: &mut S, i: I, j: J) -> u32 { let at = slot(i); let done = call(m.first, m.items[at], i, j); m.items[at] = done.after; done.code }
 -- leaves Q, where its two callees, of which only their contracts are known, give an `at` of which P holds and a `done` of which P′ holds, and Q follows from these.
 -- `fn-of` is its MIR but for the callees' keys.
--- The borrow of m is opened; the shared record and the item are copied out of its cell for the call, the callee's item is stored in the item's place, and the borrow closed at
+-- The borrow of m is opened; the shared record and the item are copied out of its cell for the call, the callee's item is stored in the item's place, and the
+-- borrow closed at
 -- the module with that item.
 -- Assumes nothing.
 use mathlib.Core.Path.{_≡_, refl, sym, ap, subst}
@@ -120,7 +121,8 @@ module _ (X Y Z : Plain) (S : Rows X Y Z) (I J : Plain) (R : Packed Z) where
 
     module _ (W : Given 𝓤 H A) (slot key : Name) (P : I .D → ℕ → Type 0) (P′ : X .D → Z .D → I .D → J .D → R .D → Type 0)
         (Q : S .D → I .D → J .D → S .D → ℕ → Type 0) (below : (i : I .D) (k : ℕ) → P i k → k < S .count)
-        (follows : (h : S .D) (i : I .D) (j : J .D) (k : ℕ) (r : R .D) → P i k → P′ (S .first h) (at-item h k) i j r → Q h i j (with-item h k (R .after r)) (R .code r)) where
+        (follows : (h : S .D) (i : I .D) (j : J .D) (k : ℕ) (r : R .D) → P i k → P′ (S .first h) (at-item h k) i j r → Q h i j (with-item h k (R .after r))
+        (R .code r)) where
       module _ (κ : Lft) (q : Share) (b o : ℕ) (γ : GName) (h : S .D) (i : I .D) (j : J .D) (i-is : Is (row I) i (vals I i)) (j-is : Is (row J) j (vals J j)) where
         abbrev x : RefT (S .D) × (I .D × (J .D × Unit {0}))
         x = (record { ptr = (b, o); name = γ; now = h }, (i, (j, tt)))
@@ -166,7 +168,8 @@ module _ (X Y Z : Plain) (S : Rows X Y Z) (I J : Plain) (R : Packed Z) where
           goes-call =
               qed W (‵ (S .own h (vals S′ h)) ∷ []) ∵ drop ! $ nothing ! $
               owned ! (row J) (Is (row J)) (makes J 𝓤 H A) j _ j-is $ fjoin ! $ owned ! (row I) (Is (row I)) (makes I 𝓤 H A) i _ i-is $ fjoin ! $
-              owned ! (row Z) (Is (row Z)) (makes Z 𝓤 H A) c _ c-is $ fjoin ! $ owned ! (row X) (Is (row X)) (makes X 𝓤 H A) (S .first h) _ (first-is X Y Z S h is) $ fjoin ! $
+              owned ! (row Z) (Is (row Z)) (makes Z 𝓤 H A) c _ c-is $ fjoin ! $ owned ! (row X) (Is (row X)) (makes X 𝓤 H A) (S .first h) _
+              (first-is X Y Z S h is) $ fjoin ! $
               nothing ! $ join ! $ frame ! $ done !
 
           module _ (r : R .D) where
@@ -195,7 +198,9 @@ module _ (X Y Z : Plain) (S : Rows X Y Z) (I J : Plain) (R : Packed Z) where
               split ! $ move ! (2 ∷ []) $ fsplit ! $ fsplit3 ! $ drop ! $ move ! (2 ∷ []) $ fsplit ! $ move ! (2 ∷ 3 ∷ 4 ∷ 0 ∷ []) $
               -- [obs; the borrow; the token; what i owns; what j owns; true]
               enter ! C Λ (fn-of slot key) (vptr b o ∷ I .val i ∷ J .val j ∷ []) _ $
-              alloc1 ! (λ l₀. alloc1 ! (λ l₁. alloc1 ! (λ l₂. alloc1 ! (λ l₃. alloc1 ! (λ l₄. alloc1 ! (λ l₅. alloc1 ! (λ l₆. alloc1 ! (λ l₇. alloc1 ! (λ l₈. alloc1 ! (λ l₉. alloc1 ! (λ l₁₀. alloc1 ! (λ l₁₁. alloc1 ! (λ l₁₂. alloc0 ! $ params1 ! $
+              alloc1 ! (λ l₀. alloc1 ! (λ l₁. alloc1 ! (λ l₂. alloc1 ! (λ l₃. alloc1 !
+              (λ l₄. alloc1 ! (λ l₅. alloc1 ! (λ l₆. alloc1 ! (λ l₇. alloc1 !
+              (λ l₈. alloc1 ! (λ l₉. alloc1 ! (λ l₁₀. alloc1 ! (λ l₁₁. alloc1 ! (λ l₁₂. alloc0 ! $ params1 ! $
               pass1 ! (init ! 22 refl (tt, tt)) $ pass1 ! (init ! 20 refl (I .typed 𝓤 H A W i i-is)) $ pass1 ! (init ! 18 refl (J .typed 𝓤 H A W j j-is)) $ pass0 ! $
               -- the item's place
               move ! (29 ∷ []) $ use1 W (raw (Found P .pre to-slot)) goes-slot $
@@ -216,9 +221,11 @@ module _ (X Y Z : Plain) (S : Rows X Y Z) (I J : Plain) (R : Packed Z) where
               assigns ! (bin ! (load ! (from ! (stop !)) (look ! 21 refl)) (lit ! (S .small)) (record { fits = S .fits k (below i k p) })) (from ! (stop !))
               (init ! 15 refl (tt, record { fits = S .fits k (below i k p) })) $
               assigns ! (addr ! (from ! (hop ! (look ! 27 refl) (fld ! refl (stop !))))) (from ! (stop !)) (init ! 13 refl (tt, tt)) $
-              assigns ! (bin ! (load ! (from ! (stop !)) (look ! 13 refl)) (load ! (from ! (stop !)) (look ! 15 refl)) tt) (from ! (stop !)) (init ! 11 refl (tt, tt)) $
+              assigns ! (bin ! (load ! (from ! (stop !)) (look ! 13 refl)) (load ! (from ! (stop !)) (look ! 15 refl)) tt) (from ! (stop !))
+              (init ! 11 refl (tt, tt)) $
               assigns ! (of-opd ! (load ! (from ! (hop ! (look ! 11 refl) (stop !)))
-              (look-in ! 0 (elem ! (item-vals X Y Z S h is) k (Z .val (S .none)) (within X Y Z S h is k (below i k p)) (long X Y Z S h is) (sub ! 2 refl (whole !))))))
+              (look-in ! 0 (elem ! (item-vals X Y Z S h is) k (Z .val (S .none)) (within X Y Z S h is k (below i k p)) (long X Y Z S h is)
+              (sub ! 2 refl (whole !))))))
               (from ! (stop !)) (init ! 9 refl (c-typed k (below i k p) is)) $
               rewrite ! 9 (λ (u : Val). ‵ (fat fullShare (Z .mir) l₁₀ 0 u)) (c-val k (below i k p) is) refl $
               move ! (1 ∷ []) $ use1 W (raw (Called P′ .pre (to-call k (below i k p) is))) (goes-call k (below i k p) is) $
@@ -236,22 +243,28 @@ module _ (X Y Z : Plain) (S : Rows X Y Z) (I J : Plain) (R : Packed Z) where
               assigns ! (bin ! (load ! (from ! (stop !)) (look ! 20 refl)) (lit ! (S .small)) (record { fits = S .fits k (below i k p) })) (from ! (stop !))
               (store ! 14 refl (tt, record { fits = S .fits k (below i k p) })) $
               assigns ! (addr ! (from ! (hop ! (look ! 26 refl) (fld ! refl (stop !))))) (from ! (stop !)) (init ! 6 refl (tt, tt)) $
-              assigns ! (bin ! (load ! (from ! (stop !)) (look ! 6 refl)) (load ! (from ! (stop !)) (look ! 14 refl)) tt) (from ! (stop !)) (init ! 4 refl (tt, tt)) $
+              assigns ! (bin ! (load ! (from ! (stop !)) (look ! 6 refl)) (load ! (from ! (stop !)) (look ! 14 refl)) tt) (from ! (stop !))
+              (init ! 4 refl (tt, tt)) $
               assigns ! (of-opd ! (load ! (from ! (fld ! refl (stop !))) (look-in ! 18 (sub ! 0 refl (whole !))))) (from ! (hop ! (look ! 4 refl) (stop !)))
               (store-in ! 0 (elem ! (item-vals X Y Z S h is) k (Z .val (S .none)) (within X Y Z S h is k (below i k p)) (long X Y Z S h is) (sub ! 2 refl (whole !)))
               (Z .typed 𝓤 H A W (R .after r) (R .fields r (w′ ∷ []) isr .0))) $
               assigns ! (of-opd ! (load ! (from ! (fld ! refl (stop !))) (look-in ! 18 (sub ! 1 refl (whole !))))) (from ! (stop !))
               (init ! 28 refl (tt, record { fits = R .fields r (w′ ∷ []) isr .1 })) $
-              rewrite ! 0 (λ (ws : List Val). ‵ (fat fullShare (S′ .mir) b o (vstruct (vcons (X .val (S .first h)) (vcons (Y .val (S .second h)) (vcons (vstruct (ofList ws)) vnil))))))
+              rewrite ! 0 (λ (ws : List Val). ‵ (fat fullShare (S′ .mir) b o
+              (vstruct (vcons (X .val (S .first h)) (vcons (Y .val (S .second h)) (vcons (vstruct (ofList ws)) vnil))))))
               (moved Z (S .items h) k (R .after r)) refl $
               use1 W (‵ (cellAt fullShare (S′ .mir ∷ []) (vs′ k (below i k p) is r) b o))
               (W .laws .at-raw fullShare (S′ .mir) b o (parts X Y Z (S .first h) (S .second h) (set (S .items h) k (R .after r)))) $
-              owned ! (row S′) (Is (row S′)) (makes S′ 𝓤 H A) (h′ k (below i k p) is r) _ (new-is X Y Z S h is (S .second h) k (R .after r) (second-is X Y Z S h is) (R .fields r (w′ ∷ []) isr .0)) $
+              owned ! (row S′) (Is (row S′)) (makes S′ 𝓤 H A) (h′ k (below i k p) is r) _
+              (new-is X Y Z S h is (S .second h) k (R .after r) (second-is X Y Z S h is) (R .fields r (w′ ∷ []) isr .0)) $
               move ! (1 ∷ 0 ∷ 2 ∷ 3 ∷ 4 ∷ []) $ closes ! tt (row S′) (h′ k (below i k p) is r) (vs′ k (below i k p) is r) b o $
               -- [obs; the borrow; the token; _12; …; _0; …]
               returns ! (look ! 27 refl) $
               forget ! 3 refl $ forget ! 5 refl $ forget ! 7 refl $ forget ! 9 refl $ forget ! 11 refl $ forget ! 13 refl $ forget ! 15 refl $ forget ! 17 refl $ forget ! 19 refl $ forget ! 21 refl $ forget ! 23 refl $ forget ! 25 refl $ forget ! 27 refl $
-              move ! (27 ∷ 28 ∷ []) $ free1 ! $ move ! (25 ∷ 26 ∷ []) $ free1 ! $ move ! (23 ∷ 24 ∷ []) $ free1 ! $ move ! (21 ∷ 22 ∷ []) $ free1 ! $ move ! (19 ∷ 20 ∷ []) $ free1 ! $ move ! (17 ∷ 18 ∷ []) $ free1 ! $ move ! (15 ∷ 16 ∷ []) $ free1 ! $ move ! (13 ∷ 14 ∷ []) $ free1 ! $ move ! (11 ∷ 12 ∷ []) $ free1 ! $ move ! (9 ∷ 10 ∷ []) $ free1 ! $ move ! (7 ∷ 8 ∷ []) $ free1 ! $ move ! (5 ∷ 6 ∷ []) $ free1 ! $ move ! (3 ∷ 4 ∷ []) $ free1 ! $ free0 ! $
+              move ! (27 ∷ 28 ∷ []) $ free1 ! $ move ! (25 ∷ 26 ∷ []) $ free1 ! $ move ! (23 ∷ 24 ∷ []) $ free1 ! $ move ! (21 ∷ 22 ∷ []) $ free1 ! $ move !
+              (19 ∷ 20 ∷ []) $ free1 ! $ move ! (17 ∷ 18 ∷ []) $ free1 ! $ move ! (15 ∷ 16 ∷ []) $ free1 ! $ move ! (13 ∷ 14 ∷ []) $ free1 ! $ move !
+              (11 ∷ 12 ∷ []) $ free1 ! $ move ! (9 ∷ 10 ∷ []) $ free1 ! $ move ! (7 ∷ 8 ∷ []) $ free1 ! $ move ! (5 ∷ 6 ∷ []) $ free1 ! $ move !
+              (3 ∷ 4 ∷ []) $ free1 ! $ free0 ! $
               keep ! (0 ∷ 1 ∷ 2 ∷ []) $ by ! (exits k (below i k p) is r p e (R .fields r (w′ ∷ []) isr .1)))))))))))))))))))))))))
 
       all-walk : (C : Calls 𝓤 H) (Λ : Loops 𝓤 H) → FmC 𝓤 H (W .laws) C → Triple 𝓤 (C slot) (Found P) → Triple 𝓤 (C key) (Called P′)

@@ -32,4 +32,5 @@ pd3120-read-spec 𝓤 H 𝓜 𝓖 𝓡 =
     (tables 𝓤 H 𝓜 𝓡 code.env .C) (tables 𝓤 H 𝓜 𝓡 code.env .Λ) #export code.function (code.unfolded 𝓤 H 𝓜 𝓡)
     (meets shared service channel box word changed 𝓤 H (𝓖 .A) (givenOf 𝓤 H 𝓜 𝓖) #call Gives Leaves (λ m n lent d lent′ p. p .0) (λ m n lent d lent′ p. p .1)
     (tablesOf 𝓤 H 𝓜 (tables 𝓤 H 𝓜 𝓡 code.env))
-    (cited 𝓤 H (Called shared service channel box word changed 𝓤 H (𝓖 .A) Gives) 𝓜 𝓡 code.env #call call-def.routine code.calls-pd3120-c·calls·read (call-thm.met 𝓤 H 𝓜 𝓖 𝓡)))
+    (cited 𝓤 H (Called shared service channel box word changed 𝓤 H (𝓖 .A) Gives) 𝓜 𝓡 code.env #call call-def.routine code.calls-pd3120-c·calls·read
+    (call-thm.met 𝓤 H 𝓜 𝓖 𝓡)))

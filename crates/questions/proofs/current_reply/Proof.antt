@@ -18,11 +18,19 @@ is-finite-requires c κs = search needs
 
 returns-2 : tie.Need-returns-2
 unfolding currentReply
-returns-2 c = simp (sym (c .before .is-finite .ensures) ∙ not-true _ (c .if2 .taken), sym (c .before .before .before .is-digital .ensures) ∙ not-false _ (c .before .before .if1 .left))
+returns-2 c = simp (
+  sym (c .before .is-finite .ensures) ∙ not-true _ (c .if2 .taken),
+  sym (c .before .before .before .is-digital .ensures) ∙ not-false _
+      (c .before .before .if1 .left),
+)
 
 returns-3 : tie.Need-returns-3
 unfolding currentReply
-returns-3 c = simp (sym (c .before .is-finite .ensures) ∙ not-false _ (c .if2 .left), sym (c .before .before .before .is-digital .ensures) ∙ not-false _ (c .before .before .if1 .left))
+returns-3 c = simp (
+  sym (c .before .is-finite .ensures) ∙ not-false _ (c .if2 .left),
+  sym (c .before .before .before .is-digital .ensures) ∙ not-false _
+      (c .before .before .if1 .left),
+)
 
 pub current-reply-spec : {M : Type 1} → statement M
 current-reply-spec =

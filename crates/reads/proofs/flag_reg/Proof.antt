@@ -18,7 +18,12 @@ byte-of-requires c κs = search needs
 
 returns : tie.Need-returns
 unfolding flagReg
-returns c = simp (c .byte-of .ensures, c .before .before .any-bit .ensures, c .before .before .before .in-b .ensures, c .before .before .before .before .in-a .ensures)
+returns c = simp (
+  c .byte-of .ensures,
+  c .before .before .any-bit .ensures,
+  c .before .before .before .in-b .ensures,
+  c .before .before .before .before .in-a .ensures,
+)
 
 pub flag-reg-spec : {M : Type 1} → statement M
 flag-reg-spec =

@@ -31,7 +31,8 @@ words-requires : tie.Need-words-requires
 words-requires c κs = search needs
 
 slot-requires : tie.Need-slot-requires
-slot-requires c κs = let place-is = c .before .before .before .place-of .ensures in subst Within (sym place-is) (within (c .before .before .before .before .before .args .swno))
+slot-requires c κs = let place-is = c .before .before .before .place-of .ensures in subst Within (sym place-is)
+    (within (c .before .before .before .before .before .args .swno))
 
 mul-ch : tie.Need-mul-ch
 mul-ch c = search needs
@@ -52,7 +53,8 @@ copy-out-requires c κs =
     let s = c .before .before .before .before .before .before .before .before .before .before .before .args in
     let p = placed (c .before .before .before .before .before .before .before .before .before .place-of .result) in
     let l = c .before .place-bytes .ensures .1 in
-    let room = roomy (s .swno) p (s .buf .now) _ (sym (c .before .before .before .before .before .before .before .read-reply .ensures) ∙ c .before .before .enum-told .given .1) in
+    let room = roomy (s .swno) p (s .buf .now) _ (sym (c .before .before .before .before .before .before .before .read-reply .ensures)
+    ∙ c .before .before .enum-told .given .1) in
     (rw l (fits p), rw l room)
 
 service-left-requires : tie.Need-service-left-requires
@@ -87,7 +89,8 @@ returns c =
           (c .channel-left .ensures ∙ own ∙ channel-left p m below ∙ ap (λ (r : Reply). getD (readLeaves r p m .channels) (slotOf p) nothing) (sym d))
           (c .before .before .before .before .before .before .before .before .before .before .before .words .ensures),
       buffered m (s .swno) lent p (w .result) e (w .ensures) _
-          (c .before .before .before .before .copy-out .ensures ∙ ap (λ (t : RegisterBytes). overwritten (take (t .len) (t .bytes)) lent) (c .before .before .before .before .before .before .place-bytes .ensures .0)
+          (c .before .before .before .before .copy-out .ensures ∙ ap (λ (t : RegisterBytes). overwritten (take (t .len) (t .bytes)) lent)
+          (c .before .before .before .before .before .before .place-bytes .ensures .0)
           ∙ ap (λ (bs : List ℕ). overwritten bs lent) (held-bytes (bytesRead p m)) ∙ ap (λ (r : Reply). readFills r p m lent) (sym d)),
     )
 

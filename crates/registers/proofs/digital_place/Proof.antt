@@ -52,7 +52,25 @@ returns-16 : tie.Need-returns-16
 returns-16 c =
     let r = c .match .rest in
     let n = c .before .args .n in
-    simp (ne-eqb n 0 (r .0 .0 .0 .0 .0 .0 .0 .0 .0 .0 .0 .0 .0 .0 .1), ne-eqb n 1 (r .0 .0 .0 .0 .0 .0 .0 .0 .0 .0 .0 .0 .0 .1), ne-eqb n 2 (r .0 .0 .0 .0 .0 .0 .0 .0 .0 .0 .0 .0 .1), ne-eqb n 3 (r .0 .0 .0 .0 .0 .0 .0 .0 .0 .0 .0 .1), ne-eqb n 4 (r .0 .0 .0 .0 .0 .0 .0 .0 .0 .0 .1), ne-eqb n 5 (r .0 .0 .0 .0 .0 .0 .0 .0 .0 .1), ne-eqb n 6 (r .0 .0 .0 .0 .0 .0 .0 .0 .1), ne-eqb n 7 (r .0 .0 .0 .0 .0 .0 .0 .1), ne-eqb n 8 (r .0 .0 .0 .0 .0 .0 .1), ne-eqb n 9 (r .0 .0 .0 .0 .0 .1), ne-eqb n 10 (r .0 .0 .0 .0 .1), ne-eqb n 11 (r .0 .0 .0 .1), ne-eqb n 12 (r .0 .0 .1), ne-eqb n 13 (r .0 .1), ne-eqb n 15 (r .1))
+    simp (
+      ne-eqb n 0 (r .0 .0 .0 .0 .0 .0 .0 .0 .0 .0 .0 .0 .0 .0 .1),
+      ne-eqb n 1 (r .0 .0 .0 .0 .0 .0 .0 .0 .0 .0 .0 .0 .0 .1),
+      ne-eqb n 2
+          (r .0 .0 .0 .0 .0 .0 .0 .0 .0 .0 .0 .0 .1),
+      ne-eqb n 3 (r .0 .0 .0 .0 .0 .0 .0 .0 .0 .0 .0 .1),
+      ne-eqb n 4 (r .0 .0 .0 .0 .0 .0 .0 .0 .0 .0 .1),
+      ne-eqb n 5 (r .0 .0 .0 .0 .0 .0 .0 .0 .0 .1),
+      ne-eqb n 6 (r .0 .0 .0 .0 .0 .0 .0 .0 .1),
+      ne-eqb n 7 (r .0 .0 .0 .0 .0 .0 .0 .1),
+      ne-eqb n 8
+          (r .0 .0 .0 .0 .0 .0 .1),
+      ne-eqb n 9 (r .0 .0 .0 .0 .0 .1),
+      ne-eqb n 10 (r .0 .0 .0 .0 .1),
+      ne-eqb n 11 (r .0 .0 .0 .1),
+      ne-eqb n 12 (r .0 .0 .1),
+      ne-eqb n 13 (r .0 .1),
+      ne-eqb n 15 (r .1),
+    )
 
 pub digital-place-spec : {M : Type 1} → statement M
 digital-place-spec =

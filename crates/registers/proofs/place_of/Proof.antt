@@ -23,7 +23,13 @@ returns-2 c = simp (ne-eqb _ 0 (c .before .before .if1 .left), eq-eqb _ 17 (c .b
 
 returns-3 : tie.Need-returns-3
 unfolding place
-returns-3 c = simp (ne-eqb _ 0 (c .before .before .if1 .left), ne-eqb _ 17 (c .before .if2 .left), lt-leb _ 16 (c .if3 .taken), le-leb 1 (c .before .before .before .args .swno / 16) (omega arith))
+returns-3 c = simp (
+  ne-eqb _ 0 (c .before .before .if1 .left),
+  ne-eqb _ 17 (c .before .if2 .left),
+  lt-leb _ 16 (c .if3 .taken),
+  le-leb 1
+      (c .before .before .before .args .swno / 16) (omega arith),
+)
 
 cast-digital-place : tie.Need-cast-digital-place
 cast-digital-place c = search needs
@@ -34,7 +40,13 @@ digital-place-requires c κs = search needs
 returns-4 : tie.Need-returns-4
 unfolding place
 returns-4 c =
-    simp (ne-eqb _ 0 (c .before .before .before .if1 .left), ne-eqb _ 17 (c .before .before .if2 .left), le-leb _ 16 (c .before .if3 .left), le-leb 1 (c .before .before .before .before .args .swno / 16) (omega arith))
+    simp (
+      ne-eqb _ 0 (c .before .before .before .if1 .left),
+      ne-eqb _ 17 (c .before .before .if2 .left),
+      le-leb _ 16 (c .before .if3 .left),
+      le-leb 1
+          (c .before .before .before .before .args .swno / 16) (omega arith),
+    )
     (c .digital-place .ensures)
 
 pub place-of-spec : {M : Type 1} → statement M

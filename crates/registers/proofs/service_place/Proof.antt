@@ -31,7 +31,16 @@ returns-9 : tie.Need-returns-9
 returns-9 c =
     let r = c .match .rest in
     let n = c .before .args .n in
-    simp (ne-eqb n 0 (r .0 .0 .0 .0 .0 .0 .0 .1), ne-eqb n 3 (r .0 .0 .0 .0 .0 .0 .1), ne-eqb n 7 (r .0 .0 .0 .0 .0 .1), ne-eqb n 8 (r .0 .0 .0 .0 .1), ne-eqb n 9 (r .0 .0 .0 .1), ne-eqb n 10 (r .0 .0 .1), ne-eqb n 13 (r .0 .1), ne-eqb n 15 (r .1))
+    simp (
+      ne-eqb n 0 (r .0 .0 .0 .0 .0 .0 .0 .1),
+      ne-eqb n 3 (r .0 .0 .0 .0 .0 .0 .1),
+      ne-eqb n 7 (r .0 .0 .0 .0 .0 .1),
+      ne-eqb n 8 (r .0 .0 .0 .0 .1),
+      ne-eqb n 9 (r .0 .0 .0 .1),
+      ne-eqb n 10 (r .0 .0 .1),
+      ne-eqb n 13 (r .0 .1),
+      ne-eqb n 15 (r .1),
+    )
 
 pub service-place-spec : {M : Type 1} → statement M
 service-place-spec =

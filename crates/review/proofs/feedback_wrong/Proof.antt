@@ -28,7 +28,14 @@ returns : tie.Need-returns
 unfolding feedbackWrong
 returns c =
     let s = c .before .before .before .before .before .before .before .before .args in
-    simp (c .before .before .in-b .ensures, c .before .before .before .in-a .ensures, c .before .before .before .before .is-set2 .ensures, c .before .before .before .before .before .ref-b .ensures, c .before .before .before .before .before .before .is-set .ensures, c .before .before .before .before .before .before .before .ref-a .ensures)
+    simp (
+      c .before .before .in-b .ensures,
+      c .before .before .before .in-a .ensures,
+      c .before .before .before .before .is-set2 .ensures,
+      c .before .before .before .before .before .ref-b .ensures,
+      c .before .before .before .before .before .before .is-set .ensures,
+      c .before .before .before .before .before .before .before .ref-a .ensures,
+    )
     (differs (isSet (refA (s .ch))) (isSet (refB (s .ch))) (inA (s .levels) (s .ch)) (inB (s .levels) (s .ch)) (s .ch .flags .«out_flag»))
 
 pub feedback-wrong-spec : {M : Type 1} → statement M

@@ -16,7 +16,12 @@ operate-requires c κs = search needs
 
 returns : tie.Need-returns
 unfolding looked
-returns c = simp (c .operate .ensures, c .before .before .feedback-wrong .ensures, sym (c .before .before .before .before .look-due .ensures) ∙ c .before .before .before .if1 .taken)
+returns c = simp (
+  c .operate .ensures,
+  c .before .before .feedback-wrong .ensures,
+  sym (c .before .before .before .before .look-due .ensures)
+      ∙ c .before .before .before .if1 .taken,
+)
 
 returns-2 : tie.Need-returns-2
 unfolding looked

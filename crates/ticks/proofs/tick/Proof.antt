@@ -21,7 +21,13 @@ tick-channels-requires c κs = search needs
 
 returns : tie.Need-returns
 unfolding ticked
-returns c = simp (c .tick-channels .ensures, c .before .save-due .ensures, c .before .before .tick-service .ensures, c .before .before .before .tick-shared .ensures, c .before .before .before .before .runs-out .ensures)
+returns c = simp (
+  c .tick-channels .ensures,
+  c .before .save-due .ensures,
+  c .before .before .tick-service .ensures,
+  c .before .before .before .tick-shared .ensures,
+  c .before .before .before .before .runs-out .ensures,
+)
 
 pub tick-spec : {M : Type 1} → statement M
 tick-spec =

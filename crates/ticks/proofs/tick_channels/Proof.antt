@@ -26,8 +26,11 @@ levels-requires c κs = search needs
 
 loop-holds : tie.Need-loop-holds Inv-loop μ-loop
 loop-holds c =
-    let a = c .before .args in
-    (search needs, sym (none (λ (j : ℕ). channelTicked (a .s) (a .ran-out) (a .due) (c .levels .result)) (below 0) (a .channels) (a .channels) (λ j l. le-ltb j 0 (omega arith))))
+    let a = c .before .args in (
+      search needs,
+      sym (none (λ (j : ℕ). channelTicked (a .s) (a .ran-out) (a .due) (c .levels .result)) (below 0) (a .channels) (a .channels)
+          (λ j l. le-ltb j 0 (omega arith))),
+    )
 
 mul-ch : tie.Need-mul-ch Inv-loop μ-loop
 mul-ch c = search needs
@@ -58,8 +61,11 @@ loop-again c =
     let g : ℕ → Channel → Channel = λ j. channelTicked (a .s) (a .ran-out) (a .due) (c .before .before .before .before .levels .result) in
     let n : length xs ≡ 16 = search (needs, c .before .before .before .before .before .good .1 .1 .1 .0) in
     let h : k < length xs = omega arith in
-    let t : below (suc k) k ≡ true = lt-ltb k (suc k) (omega arith) in
-    (omega arith, rw (c .tick-channel .ensures, c .before .before .before .loop .inv .1, add-one, untouched g (below k) k xs xs _ (le-ltb k k (omega arith))) (one-more g (below k) (below (suc k)) k xs xs _ h h t (up k)))
+    let t : below (suc k) k ≡ true = lt-ltb k (suc k) (omega arith) in (
+      omega arith,
+      rw (c .tick-channel .ensures, c .before .before .before .loop .inv .1, add-one, untouched g (below k) k xs xs _ (le-ltb k k (omega arith)))
+          (one-more g (below k) (below (suc k)) k xs xs _ h h t (up k)),
+    )
 
 returns : tie.Need-returns Inv-loop μ-loop
 returns c =
@@ -67,7 +73,8 @@ returns c =
     let xs = a .channels in
     let e : c .before .loop .k ≡ 16 = omega arith in
     let n : length xs ≡ 16 = search needs in
-    c .before .loop .inv .1 ∙ rw (e, c .before .before .levels .ensures) (all (channelTicked (a .s) (a .ran-out) (a .due) (map inFlag xs)) (below 16) xs xs refl (λ j l. lt-ltb j 16 (omega arith)))
+    c .before .loop .inv .1 ∙ rw (e, c .before .before .levels .ensures)
+    (all (channelTicked (a .s) (a .ran-out) (a .due) (map inFlag xs)) (below 16) xs xs refl (λ j l. lt-ltb j 16 (omega arith)))
 
 pub tick-channels-spec : {M : Type 1} → statement M
 tick-channels-spec =

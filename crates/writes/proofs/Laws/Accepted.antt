@@ -22,7 +22,8 @@ two-bytes InFlags bs q e = e
 two-bytes IOChError bs q e = let z : _≡_ {A = ℕ} 0 1 = cc in absurd (omega arith)
 two-bytes ChError bs q e = let z : _≡_ {A = ℕ} 0 1 = cc in absurd (omega arith)
 
-pub answered : (m : Module) (n : ℕ) (bs : List ℕ) (p : Place) (r : Reply) (after : Module) → p ≡ place n → r ≡ writeReply (writeEnable (m .shared)) n p bs → after ≡ writeLeaves r p bs m
+pub answered : (m : Module) (n : ℕ) (bs : List ℕ) (p : Place) (r : Reply) (after : Module) → p ≡ place n → r ≡ writeReply (writeEnable (m .shared)) n p bs
+    → after ≡ writeLeaves r p bs m
     → record { reply = r; after = after } ≡ writeOf m n bs
 unfolding writeOf
 answered m n bs p r after e f g = rw (g, f, e)

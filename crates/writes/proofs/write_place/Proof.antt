@@ -21,7 +21,8 @@ enum-known-p-3 : tie.Need-enum-known-p-3
 enum-known-p-3 c = search needs
 
 write-common-requires : tie.Need-write-common-requires
-write-common-requires c κs = let a = rw (c .before .before .p3 .given .1) at (c .before .before .before .before .before .pre) in two-bytes (c .before .before .p3 .given .0 .0) (c .before .before .before .before .before .args .b .now) (a .1) (a .2)
+write-common-requires c κs = let a = rw (c .before .before .p3 .given .1) at (c .before .before .before .before .before .pre) in two-bytes
+    (c .before .before .p3 .given .0 .0) (c .before .before .before .before .before .args .b .now) (a .1) (a .2)
 
 enum-told : tie.Need-enum-told
 enum-told c = search needs

@@ -13,7 +13,8 @@ down-to-requires c κs = search needs
 
 returns : tie.Need-returns
 unfolding feedbackTick
-returns c = ap timer (stepped (λ (z : ℤ). larger (z -ℤ pos 8) (negℤ (pos 2147483648))) (c .before .before .args .self .0) (c .down-to .result) (record { sfits = c .before .struct-told .given .0 .1 }) (record { sfits = c .down-to .ok }) (c .down-to .ensures))
+returns c = ap timer (stepped (λ (z : ℤ). larger (z -ℤ pos 8) (negℤ (pos 2147483648))) (c .before .before .args .self .0) (c .down-to .result)
+    (record { sfits = c .before .struct-told .given .0 .1 }) (record { sfits = c .down-to .ok }) (c .down-to .ensures))
 
 pub feedback-tick-spec : {M : Type 1} → statement M
 feedback-tick-spec = tie.close (tie.spec down-to-requires returns)

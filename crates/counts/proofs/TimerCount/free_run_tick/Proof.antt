@@ -13,7 +13,8 @@ wrapping-add-i32-requires c κs = search needs
 
 returns : tie.Need-returns
 unfolding freeRunTick
-returns c = ap timer (stepped (λ (z : ℤ). wrapped 32 (z +ℤ pos 8)) (c .before .before .args .self .0) (c .wrapping-add-i32 .result) (record { sfits = c .before .struct-told .given .0 .1 }) (record { sfits = c .wrapping-add-i32 .ok }) (c .wrapping-add-i32 .ensures))
+returns c = ap timer (stepped (λ (z : ℤ). wrapped 32 (z +ℤ pos 8)) (c .before .before .args .self .0) (c .wrapping-add-i32 .result)
+    (record { sfits = c .before .struct-told .given .0 .1 }) (record { sfits = c .wrapping-add-i32 .ok }) (c .wrapping-add-i32 .ensures))
 
 pub free-run-tick-spec : {M : Type 1} → statement M
 free-run-tick-spec = tie.close (tie.spec wrapping-add-i32-requires returns)

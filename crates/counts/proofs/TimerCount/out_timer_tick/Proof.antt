@@ -13,7 +13,8 @@ wrapping-sub-i32-requires c κs = search needs
 
 returns : tie.Need-returns
 unfolding outTimerTick
-returns c = ap timer (stepped (λ (z : ℤ). wrapped 32 (z -ℤ pos 8)) (c .before .before .args .self .0) (c .wrapping-sub-i32 .result) (record { sfits = c .before .struct-told .given .0 .1 }) (record { sfits = c .wrapping-sub-i32 .ok }) (c .wrapping-sub-i32 .ensures))
+returns c = ap timer (stepped (λ (z : ℤ). wrapped 32 (z -ℤ pos 8)) (c .before .before .args .self .0) (c .wrapping-sub-i32 .result)
+    (record { sfits = c .before .struct-told .given .0 .1 }) (record { sfits = c .wrapping-sub-i32 .ok }) (c .wrapping-sub-i32 .ensures))
 
 pub out-timer-tick-spec : {M : Type 1} → statement M
 out-timer-tick-spec = tie.close (tie.spec wrapping-sub-i32-requires returns)

@@ -46,8 +46,11 @@ loop-again c =
     let xs = a .t2 in
     let h : k < length xs = search needs in
     let l : k < 16 = omega arith in
-    let t : below (suc k) k ≡ true = lt-ltb k (suc k) (omega arith) in
-    (omega arith, rw (c .flag-of .ensures, c .before .before .before .loop .inv .1, add-one) (one-more (λ (j : ℕ). flagOf (a .which)) (below k) (below (suc k)) k xs (replicate 16 false) _ h l t (up k)))
+    let t : below (suc k) k ≡ true = lt-ltb k (suc k) (omega arith) in (
+      omega arith,
+      rw (c .flag-of .ensures, c .before .before .before .loop .inv .1, add-one)
+          (one-more (λ (j : ℕ). flagOf (a .which)) (below k) (below (suc k)) k xs (replicate 16 false) _ h l t (up k)),
+    )
 
 returns : tie.Need-returns Inv-loop μ-loop
 returns c =

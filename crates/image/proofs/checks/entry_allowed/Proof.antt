@@ -66,7 +66,13 @@ limit-allowed-requires-2 c κs = search needs
 
 returns : tie.Need-returns
 unfolding entryAllowed
-returns c = simp (c .limit-allowed2 .ensures, c .before .before .limit-allowed .ensures, c .before .before .before .before .preset-allowed2 .ensures, c .before .before .before .before .before .before .preset-allowed .ensures, c .before .before .before .before .before .before .before .before .config-allowed .ensures)
+returns c = simp (
+  c .limit-allowed2 .ensures,
+  c .before .before .limit-allowed .ensures,
+  c .before .before .before .before .preset-allowed2 .ensures,
+  c .before .before .before .before .before .before .preset-allowed .ensures,
+  c .before .before .before .before .before .before .before .before .config-allowed .ensures,
+)
 
 pub entry-allowed-spec : {M : Type 1} → statement M
 entry-allowed-spec =

@@ -21,10 +21,15 @@ u16-of-bytes-requires : tie.Need-u16-of-bytes-requires
 u16-of-bytes-requires c κs = search needs
 
 slice-aggregate-sum : tie.Need-slice-aggregate-sum
-slice-aggregate-sum c = sym (length-take-le 715 (c .before .before .before .before .before .args .img .now) (omega (arith, c .before .before .before .before .before .pre)))
+slice-aggregate-sum c = sym (length-take-le 715 (c .before .before .before .before .before .args .img .now)
+    (omega (arith, c .before .before .before .before .before .pre)))
 
 sum-requires : tie.Need-sum-requires
-sum-requires c κs = omega (arith, length-take-le 715 (c .before .before .before .before .before .args .img .now) (omega (arith, c .before .before .before .before .before .pre)))
+sum-requires c κs = omega (
+  arith,
+  length-take-le 715 (c .before .before .before .before .before .args .img .now)
+      (omega (arith, c .before .before .before .before .before .pre)),
+)
 
 cast-result : tie.Need-cast-result
 cast-result c = search needs

@@ -45,7 +45,12 @@ returns : tie.Need-returns
 unfolding valuesAllowed
 returns c =
     let s = c .before .before .before .before .before .before .before in
-    rw (c .entries-allowed .ensures, c .before .before .preset-allowed .ensures, c .before .before .before .before .module-config-allowed .ensures, to-the-end 10 (s .args .img .now))
+    rw (
+      c .entries-allowed .ensures,
+      c .before .before .preset-allowed .ensures,
+      c .before .before .before .before .module-config-allowed .ensures,
+      to-the-end 10 (s .args .img .now),
+    )
 
 pub values-allowed-spec : {M : Type 1} → statement M
 values-allowed-spec =

@@ -75,7 +75,16 @@ restore-requires c κs = search needs
 
 returns : tie.Need-returns
 unfolding entryFrom
-returns c = rw (c .restore .ensures, c .before .kept-of .ensures, c .before .before .presets-of .ensures, c .before .before .before .four-from .ensures, c .before .before .before .before .before .eight-from .ensures, c .before .before .before .before .before .before .before .real-from2 .ensures, c .before .before .before .before .before .before .before .before .before .real-from .ensures, c .before .before .before .before .before .before .before .before .before .before .before .config-from .ensures)
+returns c = rw (
+  c .restore .ensures,
+  c .before .kept-of .ensures,
+  c .before .before .presets-of .ensures,
+  c .before .before .before .four-from .ensures,
+  c .before .before .before .before .before .eight-from .ensures,
+  c .before .before .before .before .before .before .before .real-from2 .ensures,
+  c .before .before .before .before .before .before .before .before .before .real-from .ensures,
+  c .before .before .before .before .before .before .before .before .before .before .before .config-from .ensures,
+)
 
 pub channel-of-spec : {M : Type 1} → statement M
 channel-of-spec =

@@ -76,11 +76,13 @@ loop-again c =
     let d = entryFrom l in
     let n : k < length es = rw (entries-count 16 l) (c .before .before .loop-test .taken) in
     let ch : c .channel-of2 .result ≡ restored (getD es k d) =
-    c .channel-of2 .ensures ∙ ap (λ (j : ℕ). restored (entryFrom (take j (drop (44 * k) l)))) w ∙ ap restored (sym (entry-at 16 l k d (c .before .before .loop-test .taken))) in
+    c .channel-of2 .ensures ∙ ap (λ (j : ℕ). restored (entryFrom (take j (drop (44 * k) l)))) w ∙ ap restored
+    (sym (entry-at 16 l k d (c .before .before .loop-test .taken))) in
     let t : below (suc k) k ≡ true = lt-ltb k (suc k) (omega arith) in (
       omega arith,
       c .before .before .before .loop .inv .1,
-      rw (ch, c .before .before .before .loop .inv .2, add-one) (one-more (λ (j : ℕ). restored) (below k) (below (suc k)) k es _ d n (omega (arith, c .before .before .before .loop .inv .1)) t (up k)),
+      rw (ch, c .before .before .before .loop .inv .2, add-one) (one-more (λ (j : ℕ). restored) (below k) (below (suc k)) k es _ d n
+          (omega (arith, c .before .before .before .loop .inv .1)) t (up k)),
     )
 
 returns : tie.Need-returns Inv-loop μ-loop

@@ -63,9 +63,11 @@ loop-again c =
     let e = entryBytes (entryOf (getD cs k nothing)) in
     let put = c .before .before .put-entry .ensures in
     let more : done ++ e ≡ entriesBytes (take (k + 1) es) =
-    rw add-one (ap (λ (x : Entry). done ++ entryBytes x) (sym (List·getD-map entryOf cs k nothing)) ∙ sym (entries-more es k (entryOf nothing) (omega (arith, n, length-map cs entryOf, c .before .before .before .before .before .loop-test .taken)))) in
+    rw add-one (ap (λ (x : Entry). done ++ entryBytes x) (sym (List·getD-map entryOf cs k nothing)) ∙ sym
+    (entries-more es k (entryOf nothing) (omega (arith, n, length-map cs entryOf, c .before .before .before .before .before .loop-test .taken)))) in
     let long : length (done ++ e) ≡ 44 * (k + 1) = length-append done e ∙ omega (arith, put .1, l .inv .3) in
-    let step = pasted-next buf 10 done (10 + 44 * k) e (l .inv .1) (put .0) (omega (arith, l .inv .3)) (omega (arith, put .1, s .pre, c .before .before .before .before .before .loop-test .taken)) ∙ ap (pasted buf 10) more in
+    let step = pasted-next buf 10 done (10 + 44 * k) e (l .inv .1) (put .0) (omega (arith, l .inv .3))
+    (omega (arith, put .1, s .pre, c .before .before .before .before .before .loop-test .taken)) ∙ ap (pasted buf 10) more in
     let grown : length (entriesBytes (take (k + 1) es)) ≡ 44 * (k + 1) = ap length (sym more) ∙ long in
     (omega arith, step, ap length step ∙ pasted-length buf 10 _ (omega (arith, grown, s .pre, c .before .before .before .before .before .loop-test .taken)), grown)
 

@@ -35,7 +35,8 @@ returns c =
     let second = c .before .before .put-last-five .ensures in
     let whole = halves e in
     let long : length (firstFive e ++ lastFive e) ≡ 44 = length-append (firstFive e) (lastFive e) ∙ omega (arith, first .1, second .1) in (
-      pasted-next buf at (firstFive e) (at + 20) (lastFive e) (first .0) (second .0) (omega (arith, first .1)) (omega (arith, second .1, s .pre)) ∙ ap (pasted buf at) whole,
+      pasted-next buf at (firstFive e) (at + 20) (lastFive e) (first .0) (second .0) (omega (arith, first .1)) (omega (arith, second .1, s .pre)) ∙ ap
+          (pasted buf at) whole,
       ap length (sym whole) ∙ long,
     )
 

@@ -57,7 +57,9 @@ returns c =
     let third = c .before .before .put-two2 .ensures in
     let three : length (ch .reals ++ bc) ≡ 16 = length-append (ch .reals) bc ∙ omega (arith, first .1, second .1) in
     let five : length ((ch .reals ++ bc) ++ de) ≡ 24 = length-append (ch .reals ++ bc) de ∙ omega (arith, three, third .1) in
-    let signed : counter .result ≡ signedBytes 4 (ch .kept .counter) = counter .ensures ∙ ap (signedBytes 4) (toZ-ofZ w32 (ch .kept .counter) (record { sfits = c .before .before .before .before .before .before .before .before .before .before .before .before .before .before .before .before .struct-told .given .0 .1 })) in
+    let signed : counter .result ≡ signedBytes 4 (ch .kept .counter) = counter .ensures ∙ ap (signedBytes 4)
+    (toZ-ofZ w32 (ch .kept .counter)
+    (record { sfits = c .before .before .before .before .before .before .before .before .before .before .before .before .before .before .before .before .struct-told .given .0 .1 })) in
     let whole : (ch .reals ++ bc) ++ de ≡ lastFive (entryOf ch) = rw (signed, operating .ensures) (simp append-assoc) in
     let two = pasted-next buf (at + 20) (ch .reals) (at + 28) bc (first .0) (second .0) (omega (arith, first .1)) (omega (arith, second .1, s .pre)) in
     let all = pasted-next buf (at + 20) (ch .reals ++ bc) (at + 36) de two (third .0) (omega (arith, three)) (omega (arith, third .1, s .pre)) in

@@ -39,7 +39,8 @@ returns c =
     let second = c .before .before .before .before .before .before .put-two .ensures in
     let long : length ((1 ∷ ab) ++ (16 ∷ [])) ≡ 10 = length-append (1 ∷ ab) (16 ∷ []) ∙ omega (arith, second .1) in
     let whole : (1 ∷ ab) ++ (16 ∷ []) ≡ moduleSection (s .args .s) = rw (config .ensures, preset .ensures) in
-    let two = pasted-next buf 0 (1 ∷ []) 1 ab (c .before .before .before .before .before .before .before .before .before .before .put-byte .ensures) (second .0) refl (omega (arith, second .1, s .pre)) in
+    let two = pasted-next buf 0 (1 ∷ []) 1 ab (c .before .before .before .before .before .before .before .before .before .before .put-byte .ensures)
+    (second .0) refl (omega (arith, second .1, s .pre)) in
     let all = pasted-next buf 0 (1 ∷ ab) 9 (16 ∷ []) two (c .before .before .put-byte2 .ensures) (omega (arith, second .1)) (omega (arith, s .pre)) in
     (all ∙ ap (pasted buf 0) whole, ap length (sym whole) ∙ long)
 

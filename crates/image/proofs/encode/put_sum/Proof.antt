@@ -36,7 +36,8 @@ same-length c = search needs
 returns : tie.Need-returns
 returns c =
     let buf = c .before .before .before .before .before .before .before .before .before .args .buf .now in
-    c .before .before .put .ensures ∙ ap (pasted buf 715) (c .before .before .before .before .before .bytes-of-u16 .ensures ∙ ap (λ (n : ℕ). bytesOf 2 (n % 65536)) (c .before .before .before .before .before .before .sum .ensures))
+    c .before .before .put .ensures ∙ ap (pasted buf 715) (c .before .before .before .before .before .bytes-of-u16 .ensures ∙ ap
+    (λ (n : ℕ). bytesOf 2 (n % 65536)) (c .before .before .before .before .before .before .sum .ensures))
 
 pub put-sum-spec : {M : Type 1} → statement M
 put-sum-spec =

@@ -16,7 +16,8 @@ i32-of-bits-requires c κs = search needs
 
 returns : tie.Need-returns
 unfolding signedNumber
-returns c = toZ-ofZ w32 (c .i32-of-bits .result) (record { sfits = c .i32-of-bits .ok }) ∙ c .i32-of-bits .ensures ∙ ap (signedBits 32) (c .before .u32-of-bytes .ensures)
+returns c = toZ-ofZ w32 (c .i32-of-bits .result) (record { sfits = c .i32-of-bits .ok }) ∙ c .i32-of-bits .ensures ∙ ap (signedBits 32)
+    (c .before .u32-of-bytes .ensures)
 
 pub i32-of-bytes-spec : {M : Type 1} → statement M
 i32-of-bytes-spec = tie.close (tie.spec u32-of-bytes-requires i32-of-bits-requires returns)

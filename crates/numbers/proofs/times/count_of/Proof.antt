@@ -27,7 +27,8 @@ cast-n : tie.Need-cast-n
 cast-n c = plus-fits (c .units-of .result) (small c)
 
 -- the sign and the magnitude make the count
-count : (c : tie.After-units-of) (b : Bool) → lt (c .before .args .x) (ofBits binary32 0) ≡ b → signed b (c .units-of .result) ≡ countOf (2 ^ c .before .args .unit) (c .before .args .x)
+count : (c : tie.After-units-of) (b : Bool) → lt (c .before .args .x) (ofBits binary32 0) ≡ b → signed b (c .units-of .result) ≡ countOf
+    (2 ^ c .before .args .unit) (c .before .args .x)
 count c b e =
     let per = 2 ^ c .before .args .unit in
     ap (signed b) (c .units-of .ensures) ∙ ap (λ (s : Bool). signed s (unitsOf per (c .before .args .x))) (sym e) ∙ sign-test per (c .before .args .x)

@@ -29,7 +29,8 @@ count : (c : tie.After-count-of) → toZ w64 (ofZ w64 (c .count-of .result)) ≡
 count c = toZ-ofZ w64 (c .count-of .result) (record { sfits = c .count-of .ok }) ∙ c .count-of .ensures ∙ operating-count (c .before .args .x) (allowed (c .before))
 
 cast-t3 : tie.Need-cast-t3
-cast-t3 c = subst (λ (z : ℤ). T (nonNeg z) × Fits w32 (natAbs z)) (sym (count c)) (tt, record { fits = operating-fits (c .before .args .x) (allowed (c .before)) (held (c .before)) })
+cast-t3 c = subst (λ (z : ℤ). T (nonNeg z) × Fits w32 (natAbs z)) (sym (count c))
+    (tt, record { fits = operating-fits (c .before .args .x) (allowed (c .before)) (held (c .before)) })
 
 made : ℤ → OperatingCount
 made z = record { 0 = natAbs z }

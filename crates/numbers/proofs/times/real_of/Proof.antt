@@ -37,7 +37,8 @@ nearest-quotient-requires c κs =
 high : (c : tie.After-nearest-quotient) → c .nearest-quotient .result ≤ 16777216
 high c =
     let s = c .before .before .before in
-    subst (λ (q : ℕ). q ≤ 16777216) (sym (c .nearest-quotient .ensures)) (rounded-high (s .args .n) (s .args .unit) (above-zero (c .before .if1 .left)) (s .fits .n .fits) (s .pre))
+    subst (λ (q : ℕ). q ≤ 16777216) (sym (c .nearest-quotient .ensures))
+    (rounded-high (s .args .n) (s .args .unit) (above-zero (c .before .if1 .left)) (s .fits .n .fits) (s .pre))
 
 cast-digits : tie.Need-cast-digits
 cast-digits c = omega (arith, high c)
@@ -60,15 +61,24 @@ exponent-le c = omega arith
 
 add-result : tie.Need-add-result
 unfolding exponent
-add-result c = record { fits = subst (λ (b : ℕ). b + exponent c * 8388608 < 4294967296) (sym (c .before .before .sign-bit .ensures)) (field-fits (exponent c) (c .nearest-quotient .result) (exponent-le c) (high c) (c .before .before .before .args .negative)) }
+add-result c = record {
+  fits = subst (λ (b : ℕ). b + exponent c * 8388608 < 4294967296) (sym (c .before .before .sign-bit .ensures))
+      (field-fits (exponent c) (c .nearest-quotient .result) (exponent-le c) (high c) (c .before .before .before .args .negative));
+}
 
 add-result-2 : tie.Need-add-result-2
 unfolding exponent
-add-result-2 c = record { fits = subst (λ (b : ℕ). b + exponent c * 8388608 + c .nearest-quotient .result < 4294967296) (sym (c .before .before .sign-bit .ensures)) (pattern-fits (exponent c) (c .nearest-quotient .result) (exponent-le c) (high c) (c .before .before .before .args .negative)) }
+add-result-2 c = record {
+  fits = subst (λ (b : ℕ). b + exponent c * 8388608 + c .nearest-quotient .result < 4294967296)
+      (sym (c .before .before .sign-bit .ensures)) (pattern-fits (exponent c) (c .nearest-quotient .result) (exponent-le c) (high c)
+      (c .before .before .before .args .negative));
+}
 
 float-from-bits-result-2 : tie.Need-float-from-bits-result-2
 unfolding exponent
-float-from-bits-result-2 c = subst (λ (b : ℕ). T (not (nanBits binary32 (b + exponent c * 8388608 + c .nearest-quotient .result)))) (sym (c .before .before .sign-bit .ensures)) (no-nan-made (exponent c) (c .nearest-quotient .result) (exponent-le c) (high c) (c .before .before .before .args .negative))
+float-from-bits-result-2 c = subst (λ (b : ℕ). T (not (nanBits binary32 (b + exponent c * 8388608 + c .nearest-quotient .result))))
+    (sym (c .before .before .sign-bit .ensures)) (no-nan-made (exponent c) (c .nearest-quotient .result) (exponent-le c) (high c)
+    (c .before .before .before .args .negative))
 
 returns-2 : tie.Need-returns-2
 unfolding exponent

@@ -41,11 +41,16 @@ mul-whole-quotient c = search needs
 
 whole-quotient-requires : tie.Need-whole-quotient-requires
 whole-quotient-requires c κs =
-    let s = c .before in
-    (omega arith, shift-pos (s .args .x) (s .args .unit) (held s) (s .pre .0) (s .pre .1) (c .if1 .left), shift-lt (s .args .x) (s .args .unit) (held s) (s .pre .0) (s .pre .1) (c .if1 .left))
+    let s = c .before in (
+      omega arith,
+      shift-pos (s .args .x) (s .args .unit) (held s) (s .pre .0) (s .pre .1) (c .if1 .left),
+      shift-lt (s .args .x) (s .args .unit) (held s)
+          (s .pre .0) (s .pre .1) (c .if1 .left),
+    )
 
 returns-2 : tie.Need-returns-2
-returns-2 c = let s = c .before .before in c .whole-quotient .ensures ∙ units-shifted (s .args .x) (s .args .unit) (held s) (s .pre .0) (s .pre .1) (c .before .if1 .left)
+returns-2 c = let s = c .before .before in c .whole-quotient .ensures ∙ units-shifted (s .args .x) (s .args .unit) (held s) (s .pre .0) (s .pre .1)
+    (c .before .if1 .left)
 
 pub units-of-spec : {M : Type 1} → statement M
 units-of-spec =

@@ -25,7 +25,8 @@ unfolding step
 returns c =
     let s = c .before .before .before .before .args in
     let r = c .before .before .before .level-reply in
-    λ m e p. done (r .result) (levelReply (s .channel)) _ (s .channel) (λ (ch : Channel). takeLevel (s .on) ch) _ _ (r .ensures) (c .before .enum-told .given .1) (level-digital (s .channel)) (c .take-level .ensures) m p
+    λ m e p. done (r .result) (levelReply (s .channel)) _ (s .channel) (λ (ch : Channel). takeLevel (s .on) ch) _ _ (r .ensures)
+    (c .before .enum-told .given .1) (level-digital (s .channel)) (c .take-level .ensures) m p
 
 returns-2 : tie.Need-returns-2
 unfolding step

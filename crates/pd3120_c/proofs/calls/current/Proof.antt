@@ -14,12 +14,14 @@ take-current-requires c κs = search needs
 pack-requires : tie.Need-pack-requires
 pack-requires c κs =
     let s = c .before .before .args in
-    sample-length (current (s .channel) (s .amperes)) (s .s) (s .ch) (sampleSlot (s .channel)) (c .before .take-current .result) (slot-fits (s .channel)) (c .before .take-current .ensures)
+    sample-length (current (s .channel) (s .amperes)) (s .s) (s .ch) (sampleSlot (s .channel)) (c .before .take-current .result) (slot-fits (s .channel))
+    (c .before .take-current .ensures)
 
 returns : tie.Need-returns
 returns c =
     let s = c .before .before .before .args in
-    sample-done (current (s .channel) (s .amperes)) (s .s) (s .ch) (sampleSlot (s .channel)) (c .before .before .take-current .result) _ (c .before .before .take-current .ensures) (c .pack .ensures)
+    sample-done (current (s .channel) (s .amperes)) (s .s) (s .ch) (sampleSlot (s .channel)) (c .before .before .take-current .result) _
+    (c .before .before .take-current .ensures) (c .pack .ensures)
 
 pub current-spec : {M : Type 1} → statement M
 current-spec = tie.close (tie.spec take-current-requires pack-requires returns)

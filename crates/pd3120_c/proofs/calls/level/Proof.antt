@@ -14,12 +14,14 @@ take-level-requires c κs = search needs
 pack-requires : tie.Need-pack-requires
 pack-requires c κs =
     let s = c .before .before .args in
-    sample-length (level (s .channel) (s .on)) (s .s) (s .ch) (sampleSlot (s .channel)) (c .before .take-level .result) (slot-fits (s .channel)) (c .before .take-level .ensures)
+    sample-length (level (s .channel) (s .on)) (s .s) (s .ch) (sampleSlot (s .channel)) (c .before .take-level .result) (slot-fits (s .channel))
+    (c .before .take-level .ensures)
 
 returns : tie.Need-returns
 returns c =
     let s = c .before .before .before .args in
-    sample-done (level (s .channel) (s .on)) (s .s) (s .ch) (sampleSlot (s .channel)) (c .before .before .take-level .result) _ (c .before .before .take-level .ensures) (c .pack .ensures)
+    sample-done (level (s .channel) (s .on)) (s .s) (s .ch) (sampleSlot (s .channel)) (c .before .before .take-level .result) _
+    (c .before .before .take-level .ensures) (c .pack .ensures)
 
 pub level-spec : {M : Type 1} → statement M
 level-spec = tie.close (tie.spec take-level-requires pack-requires returns)

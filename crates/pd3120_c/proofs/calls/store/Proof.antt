@@ -11,7 +11,8 @@ store-requires : tie.Need-store-requires
 store-requires c κs = search needs
 
 pack-requires : tie.Need-pack-requires
-pack-requires c κs = let s = c .before .before .before .before .before .args in store-length (s .m) (s .buf .now) (c .before .before .store .result) _ (c .before .before .store .ensures .answer-is)
+pack-requires c κs = let s = c .before .before .before .before .before .args in store-length (s .m) (s .buf .now) (c .before .before .store .result) _
+    (c .before .before .store .ensures .answer-is)
 
 same-length : tie.Need-same-length
 same-length c = search needs

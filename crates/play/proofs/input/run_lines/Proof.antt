@@ -7,7 +7,8 @@ use Rattle.play.proofs.input.run_lines.Statement.{statement}
 use Rattle.play.proofs.input.run_lines.Tie as tie
 
 abbrev Inv-loop : tie.InvT-loop
-Inv-loop text space₀ out₀ player₀ at₀ to₀ space out player at to = (at ≤ length text) × (to ≤ length out) × (length space ≡ length space₀) × (length out ≡ length out₀)
+Inv-loop text space₀ out₀ player₀ at₀ to₀ space out player at to = (at ≤ length text) × (to ≤ length out) × (length space ≡ length space₀) ×
+    (length out ≡ length out₀)
 
 abbrev μ-loop : tie.MeasureT-loop
 μ-loop text space₀ out₀ player₀ at₀ to₀ space out player at to = length text - at
@@ -34,13 +35,23 @@ flush-requires : tie.Need-flush-requires Inv-loop μ-loop
 flush-requires c κs = c .before .before .before .before .before .before .run-line .ensures
 
 add-at : tie.Need-add-at Inv-loop μ-loop
-add-at c = omega (arith, c .before .before .before .before .before .before .before .before .before .before .before .before .find .ensures, c .before .before .before .before .before .before .before .before .before .before .before .before .before .before .before .before .before .before .good .1 .0)
+add-at c = omega (
+  arith,
+  c .before .before .before .before .before .before .before .before .before .before .before .before .find .ensures,
+  c .before .before .before .before .before .before .before .before .before .before .before .before .before .before .before .before .before .before .good .1 .0,
+)
 
 loop-less : tie.Need-loop-less Inv-loop μ-loop
 loop-less c = omega arith
 
 loop-again : tie.Need-loop-again Inv-loop μ-loop
-loop-again c = let i = c .before .before .before .before .before .before .before .before .before .before .before .before .before .before .loop .inv in (omega arith, c .flush .ensures, c .before .before .before .before .before .before .space .given ∙ i .2, c .before .before .before .before .out .given ∙ i .3)
+loop-again c = let i = c .before .before .before .before .before .before .before .before .before .before .before .before .before .before .loop .inv in (
+  omega arith,
+  c .flush .ensures,
+  c .before .before .before .before .before .before .space .given ∙ i .2,
+  c .before .before .before .before .out .given
+      ∙ i .3,
+)
 
 sub-write-out : tie.Need-sub-write-out Inv-loop μ-loop
 sub-write-out c = search needs

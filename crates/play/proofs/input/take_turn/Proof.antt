@@ -48,7 +48,8 @@ keep-rest-requires : tie.Need-keep-rest-requires
 keep-rest-requires c κs = search needs
 
 same-length-4 : tie.Need-same-length-4
-same-length-4 c = c .before .text4 .given ∙ c .before .before .before .before .before .before .before .before .before .before .before .before .before .before .before .before .text .given
+same-length-4 c = c .before .text4 .given
+    ∙ c .before .before .before .before .before .before .before .before .before .before .before .before .before .before .before .before .text .given
 
 same-length-5 : tie.Need-same-length-5
 same-length-5 c = c .before .before .before .before .before .before .before .before .space2 .given

@@ -27,8 +27,12 @@ word-from-requires c κs = search needs
 
 loop-holds : tie.Need-loop-holds Inv-loop μ-loop
 loop-holds c =
-    let a = c .before .before .args in
-    (search needs, c .word-from .ensures ∙ sym (div-one (number (a .b .now))), sym (none (commonWritten (a .r) (a .b .now)) (below 0) (a .channels) (a .channels) (λ j l. le-ltb j 0 (omega arith))))
+    let a = c .before .before .args in (
+      search needs,
+      c .word-from .ensures ∙ sym (div-one (number (a .b .now))),
+      sym
+          (none (commonWritten (a .r) (a .b .now)) (below 0) (a .channels) (a .channels) (λ j l. le-ltb j 0 (omega arith))),
+    )
 
 mul-ch : tie.Need-mul-ch Inv-loop μ-loop
 mul-ch c = search needs
@@ -62,8 +66,13 @@ loop-again c =
     let g : ℕ → Channel → Channel = commonWritten (s .args .r) bs in
     let n : length xs ≡ 16 = search (needs, s .good .1 .1 .0) in
     let h : k < length xs = omega arith in
-    let t : below (suc k) k ≡ true = lt-ltb k (suc k) (omega arith) in
-    (omega arith, rw add-one (ap (λ (m : ℕ). m / 2) (l .inv .1) ∙ halved (number bs) k), rw (c .write-bit .ensures, l .inv .1, l .inv .2, add-one, untouched g (below k) k xs xs _ (le-ltb k k (omega arith))) (one-more g (below k) (below (suc k)) k xs xs _ h h t (up k)))
+    let t : below (suc k) k ≡ true = lt-ltb k (suc k) (omega arith) in (
+      omega arith,
+      rw add-one (ap (λ (m : ℕ). m / 2) (l .inv .1) ∙ halved (number bs) k),
+      rw
+          (c .write-bit .ensures, l .inv .1, l .inv .2, add-one, untouched g (below k) k xs xs _ (le-ltb k k (omega arith)))
+          (one-more g (below k) (below (suc k)) k xs xs _ h h t (up k)),
+    )
 
 returns : tie.Need-returns Inv-loop μ-loop
 returns c =

@@ -146,7 +146,12 @@ returns-2 c = simp (c .set-out-timer .ensures, c .before .timer-from .ensures, c
 
 returns-3 : tie.Need-returns-3
 unfolding digitalWritten
-returns-3 c = rw (c .write-counter .ensures, toZ-ofZ {w = w32} {z = c .before .signed-from .result} (search needs), c .before .signed-from .ensures, c .before .before .enum-told3 .given .1)
+returns-3 c = rw (
+  c .write-counter .ensures,
+  toZ-ofZ {w = w32} {z = c .before .signed-from .result} (search needs),
+  c .before .signed-from .ensures,
+  c .before .before .enum-told3 .given .1,
+)
 
 returns-4 : tie.Need-returns-4
 unfolding digitalWritten

@@ -53,8 +53,11 @@ loop-again c =
     let g : ℕ → Channel → Channel = λ j. everyWritten (s .args .r) in
     let n : length xs ≡ 16 = search (needs, s .good .1 .0) in
     let h : k < length xs = omega arith in
-    let t : below (suc k) k ≡ true = lt-ltb k (suc k) (omega arith) in
-    (omega arith, rw (c .write-every .ensures, c .before .before .before .loop .inv .1, add-one, untouched g (below k) k xs xs _ (le-ltb k k (omega arith))) (one-more g (below k) (below (suc k)) k xs xs _ h h t (up k)))
+    let t : below (suc k) k ≡ true = lt-ltb k (suc k) (omega arith) in (
+      omega arith,
+      rw (c .write-every .ensures, c .before .before .before .loop .inv .1, add-one, untouched g (below k) k xs xs _ (le-ltb k k (omega arith)))
+          (one-more g (below k) (below (suc k)) k xs xs _ h h t (up k)),
+    )
 
 returns : tie.Need-returns Inv-loop μ-loop
 returns c =
