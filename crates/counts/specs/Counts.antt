@@ -1,5 +1,5 @@
--- Document 01, "Time and amperes": timer counts are in 1/256 s, operating counts in 1/8 s; and how "A tick" moves each count.
--- A tick is 1/32 s, which is 8 in a timer count. Definitions only.
+-- Document 01, Time and amperes 1, A tick 1, 2 and 5, A channel 10: the units of counts, and how each count moves. A tick, 1/32 s, is 8 in a timer count.
+-- Definitions only.
 use mathlib.Core.Bool.{Bool}
 use Prim.Native.Nat.{ℕ, _+_, min}
 use lib.IntN.{ℤ, pos, negℤ, _+ℤ_, _-ℤ_}
@@ -19,27 +19,27 @@ operatingUnits = 8
 abbrev pub timer : ℤ → TimerCount
 timer z = record { 0 = z }
 
--- step 1: FreeRunTimer gains 8, wrapping
+-- A tick 1: FreeRunTimer, up, round through its lowest number
 unfoldable pub freeRunTick : TimerCount → TimerCount
 freeRunTick t = timer (wrapped 32 (t .0 +ℤ pos 8))
 
--- step 1: WDTimer loses 8, stopping at 0
+-- A tick 1: WDTimer, down to 0 and no further
 unfoldable pub watchdogTick : TimerCount → TimerCount
 watchdogTick t = timer (larger (t .0 -ℤ pos 8) (pos 0))
 
--- step 2: OutTimer counts down by 8 and wraps
+-- A tick 2: OutTimer, down, round through its highest number
 unfoldable pub outTimerTick : TimerCount → TimerCount
 outTimerTick t = timer (wrapped 32 (t .0 -ℤ pos 8))
 
--- step 2: FBTimer counts down by 8 and stops at −2147483648
+-- A tick 2: FBTimer, down to its lowest number and no further
 unfoldable pub feedbackTick : TimerCount → TimerCount
 feedbackTick t = timer (larger (t .0 -ℤ pos 8) (negℤ (pos 2147483648)))
 
--- step 5: the operating count gains 1, stopping at 4294967295
+-- A tick 5: the operating count, up to its highest number and no further
 unfoldable pub operatingStep : OperatingCount → OperatingCount
 operatingStep n = record { 0 = min (n .0 + 1) 4294967295 }
 
--- "A channel": each InFlag 0 to 1 adds 1 to Counter, 2147483647 going to −2147483648
+-- A channel 10: Counter, up, round through its lowest number
 unfoldable pub counterStep : ℤ → ℤ
 counterStep n = wrapped 32 (n +ℤ pos 1)
 

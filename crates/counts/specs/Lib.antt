@@ -1,3 +1,3 @@
--- What counts of time mean: their units in document 01, "Time and amperes", and how "A tick" moves them.
+-- What counts of time mean: their units, and how a tick moves them.
 pub mod Counts
 pub mod Claims

@@ -1,4 +1,4 @@
 pub mod Lists
 pub mod Paste
-pub mod Rows
+pub mod Entries
 pub mod Tests

@@ -1,4 +1,4 @@
--- Document 01: "Numbers of several bytes have the high byte first." Definitions only.
+-- Document 01, Head 3: numbers of several bytes. Definitions only.
 use mathlib.Core.List.{List, [], _∷_}
 use Prim.Native.Nat.{ℕ, zero, suc, _+_, _*_, _/_, _%_, _^_}
 use lib.ListN.{length}

@@ -4,7 +4,7 @@ pub mod Tests
 pub mod Values
 pub mod Parts
 pub mod Entries
-pub mod Rows
+pub mod Sequence
 pub mod Whole
 pub mod Rules
 pub mod Writes

@@ -1,5 +1,4 @@
--- What the box's Reals mean, and which of them its registers take: document 01, "Time and amperes".
+-- What the box's Reals mean, and which of them its registers take: document 01, Time and amperes.
 pub mod Reals
 pub mod Written
-pub mod Table
 pub mod Claims

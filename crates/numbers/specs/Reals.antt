@@ -1,4 +1,4 @@
--- Document 01, "Time and amperes": Reals of 32 bits and counts, once over the unit. A unit is 1 / per of a second.
+-- Document 01, Time and amperes 2 and 3: Reals of 32 bits and counts, once over the unit. A unit is 1 / per of a second.
 -- A Real is the library's `Float`: `fin s m e` is m * 2 ^ e, negative where s is true, and 2 ^ e is the fraction up e / down e. Definitions only.
 use mathlib.Core.Bool.{Bool, true, false}
 use mathlib.Core.List.{List}
@@ -15,7 +15,7 @@ realFrom bs = ofBits binary32 (number bs)
 unfoldable pub realBytes : Float → List ℕ
 realBytes x = bytesOf 4 (toBits binary32 x)
 
--- "A Real time written becomes a count, the rest dropped toward zero": the whole number that a / b units become. The one rounding rule for written times.
+-- Time and amperes 2: the whole number that a / b units become, the fraction dropped. The one rounding rule for written times.
 unfoldable pub whole : ℕ → ℕ → ℕ
 whole a b = a / b
 
@@ -37,7 +37,7 @@ countOf per nan = pos 0
 countOf per (inf s) = pos 0
 countOf per (fin s m e) = signed s (unitsOf per (fin s m e))
 
--- "A count read becomes the nearest 32-bit Real, ties to the even last bit": count / per, rounded
+-- Time and amperes 3: count / per, rounded to nearest, ties to even
 unfoldable pub realOf : ℕ → ℤ → Float
 realOf per (pos n) = round binary32 false n per
 realOf per (negsuc n) = round binary32 true (suc n) per

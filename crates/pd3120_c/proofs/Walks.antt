@@ -4,7 +4,7 @@ pub mod Output
 pub mod Plain
 pub mod PowerUp
 pub mod Read
-pub mod Rows
+pub mod Grouped
 pub mod Sample
 pub mod Store
 pub mod Tick

@@ -21,7 +21,7 @@ use Rattle.model.proofs.Images.Tests.{both, join}
 use Rattle.model.proofs.Images.Values.{signed-again, signed-back, Preset, preset-from}
 use Rattle.model.proofs.Images.Parts.{bytes-part, bytes-drop, part-length, part-more, one-byte, beside}
 use Rattle.model.proofs.Images.Entries.{config-again}
-use Rattle.model.proofs.Images.Rows.{AllHeld, entries-again, entries-held, entries-count, entries-length, entries-back, entries-allowed}
+use Rattle.model.proofs.Images.Sequence.{AllHeld, entries-again, entries-held, entries-count, entries-length, entries-back, entries-allowed}
 
 -- a setup's values in their ranges
 pub record SetupHeld (s : Setup) : Type 0 where

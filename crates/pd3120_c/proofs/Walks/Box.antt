@@ -30,7 +30,7 @@ use Rattle.pd3120_c.specs.declared.ReadDone.{ReadDone}
 use Rattle.pd3120_c.proofs.ReadDone as Rd
 use Rattle.pd3120_c.proofs.ReadDone.Laws as Rd′
 use Rattle.pd3120_c.proofs.Walks.Plain.{Plain, Packed}
-use Rattle.pd3120_c.proofs.Walks.Rows.{Owned, Rows, rows, Changes}
+use Rattle.pd3120_c.proofs.Walks.Grouped.{Owned, Grouped, rows, Changes}
 
 abbrev pub shared : Plain
 shared = record {
@@ -87,7 +87,7 @@ pub owned-each : (cs : List Channel) → Owned channel cs → shadow (each _ (Ch
 owned-each [] p = tt
 owned-each (c ∷ cs) p = (p .0, owned-each cs (p .1))
 
-abbrev pub box : Rows shared service channel
+abbrev pub box : Grouped shared service channel
 box = record {
   D = Module;
   name = T.struct .name;

@@ -46,10 +46,10 @@ use denote.Triple.Walked.{says, Stays, stay-ref, stay-none, gave-slice, walkOf, 
 use denote.Triple.Walked.{AllGo, goes-ref, goes-none, goes-gave-slice}
 use denote.Exit.{yes}
 use Rattle.pd3120_c.proofs.Walks.Plain.{Plain, row, vals, makes, keeping, stating}
-use Rattle.pd3120_c.proofs.Walks.Rows.{moved, parts, Rows, rows, Changes, changes, changes-layout, item-vals, long, within, new-is}
+use Rattle.pd3120_c.proofs.Walks.Grouped.{moved, parts, Grouped, rows, Changes, changes, changes-layout, item-vals, long, within, new-is}
 use Rattle.pd3120_c.proofs.Walks.Element.{elem}
 
-module _ (X Y Z : Plain) (S : Rows X Y Z) (I : Plain) (R : Changes Y Z) where
+module _ (X Y Z : Plain) (S : Grouped X Y Z) (I : Plain) (R : Changes Y Z) where
   abbrev S′ : Plain
   S′ = rows X Y Z S
 

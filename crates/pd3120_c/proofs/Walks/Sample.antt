@@ -47,11 +47,11 @@ use denote.Triple.Walked.{says, Stays, stay-ref, stay-none, walkOf, Walks, ends-
 use denote.Triple.Walked.{AllGo, goes-ref, goes-none}
 use denote.Exit.{yes}
 use Rattle.pd3120_c.proofs.Walks.Plain.{Plain, row, vals, makes, value, lands, Packed, packed, packed-mir, keeping, stating}
-use Rattle.pd3120_c.proofs.Walks.Rows.{moved, parts, Rows, rows, item-vals, long, within, first-is, second-is, item-is, new-is}
+use Rattle.pd3120_c.proofs.Walks.Grouped.{moved, parts, Grouped, rows, item-vals, long, within, first-is, second-is, item-is, new-is}
 use Rattle.pd3120_c.proofs.Walks.Types.{count}
 use Rattle.pd3120_c.proofs.Walks.Element.{elem}
 
-module _ (X Y Z : Plain) (S : Rows X Y Z) (I J : Plain) (R : Packed Z) where
+module _ (X Y Z : Plain) (S : Grouped X Y Z) (I J : Plain) (R : Packed Z) where
   abbrev S′ : Plain
   S′ = rows X Y Z S
 

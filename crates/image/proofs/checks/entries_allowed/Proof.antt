@@ -5,7 +5,7 @@ use Prim.Native.Nat.{ℕ, _+_, _*_, _-_, _≤_}
 use native.Mathlib.Numerals.{add-one}
 use native.Mathlib.Omega.{arith}
 use lib.ListN.{take, drop}
-use Rattle.image.proofs.Laws.Rows.{allowed-more}
+use Rattle.image.proofs.Laws.Entries.{allowed-more}
 use Rattle.model.specs.Image.{entryAllowed, entriesAllowed}
 use Rattle.image.proofs.checks.entries_allowed.Statement.{statement}
 use Rattle.image.proofs.checks.entries_allowed.Tie as tie

@@ -6,7 +6,7 @@ use native.Mathlib.Omega.{arith}
 use lib.ListN.{length, take}
 use lib.Seq.{take-length}
 use Rattle.model.specs.Image.{total}
-use Rattle.image.proofs.Laws.Rows.{total-more}
+use Rattle.image.proofs.Laws.Entries.{total-more}
 use Rattle.image.proofs.checks.sum.Statement.{statement}
 use Rattle.image.proofs.checks.sum.Tie as tie
 

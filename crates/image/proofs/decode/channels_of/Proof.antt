@@ -9,8 +9,8 @@ use lib.ListN.{length, take, drop, getD}
 use borrow.Author.Tests.{lt-ltb, le-ltb}
 use Rattle.model.specs.Image.{entryFrom, entriesFrom, restored}
 use Rattle.model.proofs.Laws.Filled.{filled, none, one-more, all, below, up}
-use Rattle.model.proofs.Images.Rows.{entries-count}
-use Rattle.image.proofs.Laws.Rows.{entry-at}
+use Rattle.model.proofs.Images.Sequence.{entries-count}
+use Rattle.image.proofs.Laws.Entries.{entry-at}
 use Rattle.image.proofs.decode.channels_of.Statement.{statement}
 use Rattle.image.proofs.decode.channels_of.Tie as tie
 

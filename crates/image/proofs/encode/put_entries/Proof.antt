@@ -11,7 +11,7 @@ use Rattle.image.specs.Parts.{pasted}
 use Rattle.model.specs.State.{nothing}
 use Rattle.model.specs.Image.{Entry, entryOf, entryBytes, entriesBytes}
 use Rattle.image.proofs.Laws.Paste.{pasted-none, pasted-length, pasted-next}
-use Rattle.image.proofs.Laws.Rows.{entries-more}
+use Rattle.image.proofs.Laws.Entries.{entries-more}
 use Rattle.image.proofs.encode.put_entries.Statement.{statement}
 use Rattle.image.proofs.encode.put_entries.Tie as tie
 

@@ -1,6 +1,6 @@
 -- A plain struct of a value, a second value and an array, as the box's module is of its shared record, its service record and its channels: what a walk uses
 -- of it where it reads and writes parts in place.
---     Rows A B C       such a struct.        rows        the struct as a plain type.        parts        its machine value, from those of its parts
+--     Grouped A B C       such a struct.        rows        the struct as a plain type.        parts        its machine value, from those of its parts
 --     Owned C cs       each of cs is owned at its own machine value.        owned-at, owned-set      of one of them, and with one anew
 --     moved            the machine values of a list with one anew
 --     Changes Y Z      a plain struct of a second value, an item, its place and a u32, as the answer of a call that changes these two is
@@ -53,7 +53,7 @@ module _ (A B C : Plain) where
   layout ν n = tyStruct ν (tcons (A .mir) (tcons (B .mir) (tcons (tyArray (C .mir) n) tnil)))
 
   -- `none` is what stands past the end of the array
-  pub record Rows : Type 2 where
+  pub record Grouped : Type 2 where
     pub D : Type 0
     pub name : Sym
     pub count : ℕ
@@ -79,7 +79,7 @@ module _ (A B C : Plain) where
     pub small : T (ltb (size (C .mir)) (2 ^ 64))
     pub fits : (k : ℕ) → k < count → k * size (C .mir) < 2 ^ 64
 
-  abbrev pub rows : Rows → Plain
+  abbrev pub rows : Grouped → Plain
   rows S = record {
     D = S .D;
     mir = layout (S .name) (S .count);
@@ -129,7 +129,7 @@ module _ (Y Z : Plain) where
   }
 
 -- ---- of an owned struct h: how many items it has, its parts, and h with the second value and item k anew
-module _ (X Y Z : Plain) (S : Rows X Y Z) (h : S .D) (is : shadow (S .own h (parts X Y Z (S .first h) (S .second h) (S .items h) ∷ []))) where
+module _ (X Y Z : Plain) (S : Grouped X Y Z) (h : S .D) (is : shadow (S .own h (parts X Y Z (S .first h) (S .second h) (S .items h) ∷ []))) where
   abbrev pub item-vals : List Val
   item-vals = map (Z .val) (S .items h)
 
