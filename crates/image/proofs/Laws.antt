@@ -1,4 +1,5 @@
 pub mod Lists
 pub mod Paste
 pub mod Entries
+pub mod Halves
 pub mod Tests

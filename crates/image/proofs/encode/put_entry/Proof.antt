@@ -1,12 +1,13 @@
 -- `encode::put_entry` meets its contract. Assumes nothing.
 use borrow.Author.Needs.{needs}
 use mathlib.Core.Path.{_≡_, sym, ap, _∙_}
-use mathlib.Core.List.{_++_, append-assoc}
+use mathlib.Core.List.{_++_}
 use Prim.Native.Nat.{_+_}
 use native.Mathlib.Omega.{arith}
 use lib.ListN.{length, length-append}
 use Rattle.image.proofs.Laws.Paste.{pasted-next}
-use Rattle.model.specs.Image.{Entry, entryOf, entryBytes}
+use Rattle.image.proofs.Laws.Halves.{halves}
+use Rattle.model.specs.Image.{entryOf}
 use Rattle.image.specs.Parts.{pasted, firstFive, lastFive}
 use Rattle.image.proofs.encode.put_entry.Statement.{statement}
 use Rattle.image.proofs.encode.put_entry.Tie as tie
@@ -19,11 +20,6 @@ put-last-five-requires c κs = search needs
 
 same-length : tie.Need-same-length
 same-length c = search needs
-
--- the two halves of an entry's bytes
-halves : (e : Entry) → firstFive e ++ lastFive e ≡ entryBytes e
-unfolding firstFive lastFive entryBytes
-halves e = simp append-assoc
 
 returns : tie.Need-returns
 returns c =

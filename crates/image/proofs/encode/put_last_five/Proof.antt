@@ -7,9 +7,10 @@ use Prim.Native.Nat.{_+_}
 use native.Mathlib.Omega.{arith}
 use lib.ListN.{length, length-append}
 use Rattle.image.proofs.Laws.Paste.{pasted-next}
+use Rattle.image.proofs.Laws.Halves.{last-five}
 use mir.Syntax.{w32}
 use mir.ValLaws.{toZ-ofZ}
-use Rattle.integers.specs.Bytes.{signedBytes}
+use Rattle.integers.specs.Bytes.{bytesOf, signedBytes}
 use Rattle.model.specs.Image.{entryOf}
 use Rattle.image.proofs.encode.put_last_five.Statement.{statement}
 use Rattle.image.proofs.encode.put_last_five.Tie as tie
@@ -42,7 +43,6 @@ same-length : tie.Need-same-length
 same-length c = search needs
 
 returns : tie.Need-returns
-unfolding lastFive
 returns c =
     let s = c .before .before .before .before .before .before .before .before .before .before .before .before .before .before .before .before .before .before .before .before .before in
     let buf = s .args .buf .now in
@@ -60,7 +60,10 @@ returns c =
     let signed : counter .result ≡ signedBytes 4 (ch .kept .counter) = counter .ensures ∙ ap (signedBytes 4)
     (toZ-ofZ w32 (ch .kept .counter)
     (record { sfits = c .before .before .before .before .before .before .before .before .before .before .before .before .before .before .before .before .struct-told .given .0 .1 })) in
-    let whole : (ch .reals ++ bc) ++ de ≡ lastFive (entryOf ch) = rw (signed, operating .ensures) (simp append-assoc) in
+    let flat : (ch .reals ++ bc) ++ de
+    ≡ ch .reals ++ (ch .maintenance ++ (ch .kept .user ++ (signedBytes 4 (ch .kept .counter) ++ bytesOf 4 (ch .kept .operating .0))))
+    = rw (signed, operating .ensures) (simp append-assoc) in
+    let whole : (ch .reals ++ bc) ++ de ≡ lastFive (entryOf ch) = flat ∙ last-five (entryOf ch) in
     let two = pasted-next buf (at + 20) (ch .reals) (at + 28) bc (first .0) (second .0) (omega (arith, first .1)) (omega (arith, second .1, s .pre)) in
     let all = pasted-next buf (at + 20) (ch .reals ++ bc) (at + 36) de two (third .0) (omega (arith, three)) (omega (arith, third .1, s .pre)) in
     (all ∙ ap (pasted buf (at + 20)) whole, ap length (sym whole) ∙ five)
