@@ -10,8 +10,8 @@ use Rattle.model.specs.declared.Channel.{Channel}
 use Rattle.model.specs.declared.Module.{Module}
 use Rattle.model.specs.declared.Function.the-variants.{Input, Output, OneShot, DutyCycle, Timer}
 use Rattle.model.specs.declared.Reference.the-variants.{None, Channel as ToChannel}
-use Rattle.model.specs.State.{channelAt, outFlag, inFlag}
-use Rattle.model.specs.Settings.{functionOf, referenceOf, simulatesInput, simulatesFeedback, enablesUnderload, silencesOverload}
+use Rattle.model.specs.State.{channelAt, outFlag, inFlag, setOutFlag}
+use Rattle.model.specs.Settings.{functionOf, referenceOf, simulatesInput, simulatesFeedback, enablesUnderload, silencesOverload, output}
 use Rattle.model.specs.Channel.{flagRegWritten}
 use Rattle.model.specs.Registers.{place}
 use Rattle.model.specs.Reads.{flagReg}
@@ -51,6 +51,10 @@ mayHold n i b = question7 (place n) (set (four 0) i b)
 abbrev pub may : ℕ → ℕ → Bool
 may n b = question7 (place n) (one b)
 
+-- whether a channel with this Functions byte drives its terminal, where OutFlag is b
+abbrev pub drives : Bool → ℕ → Bool
+drives b f = output (setOutFlag b (channelAt (boxOf 0 0 (entry (f * 65536) 0 0 ∷ [])) 1))
+
 -- ---- words: sixteen outputs with simulated input, the watchdog off
 abbrev pub outputs : Module
 outputs = boxOf 0x0010_0000 0 (replicate 16 (entry 0x0110_0000 0 0))
@@ -87,6 +91,9 @@ pub record Ranges : Type 0 where
   pub functions : map functionOf bytes ≡ functionOfEvery
   pub references : map referenceOf bytes ≡ None ∷ (map ToChannel (numbers 1 16) ++ replicate 239 None)
   pub samples : map question8 bytes ≡ false ∷ (replicate 16 true ++ replicate 239 false)
+  -- A channel 2: Output, where OutFlag is TRUE and where it is not
+  pub outputs-on : map (drives true) bytes ≡ except (0x10 ∷ 0x20 ∷ 0x30 ∷ 0x50 ∷ []) true (replicate 256 false)
+  pub outputs-off : map (drives false) bytes ≡ replicate 256 false
   -- A channel 4: the four bits of Enablebit, in every byte
   pub bit0 : map (λ e. simulatesInput (enabledBy e)) bytes ≡ bitOfEvery 0
   pub bit2 : map (λ e. simulatesFeedback (enabledBy e)) bytes ≡ bitOfEvery 2

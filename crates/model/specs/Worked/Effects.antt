@@ -76,8 +76,9 @@ pub record Effects : Type 0 where
   -- Registers 5 to 8: CommonError, IOChError and the common ChError with errors on channels 1, 8, 9 and 16; acknowledging with and without a standing
   --  Act
   pub common-error : Plays wireBox
-      (takes (amperes 1 0x4040_0000) then writes 0x80 (one 0x88) present then takes (amperes 9 0x4040_0000) then takes (amperes 16 0x4040_0000)
-      then reads 0x0F (words (0x8100_0100 ∷ 0x0203_0300 ∷ 0x0203_0300 ∷ [])) present then reads 0x112 (four 0x8181_8181) present
+      (writes 0x0F (words (0 ∷ 0 ∷ 0 ∷ [])) calm then reads 0x0F (words (0 ∷ 0 ∷ 0 ∷ [])) calm then takes (amperes 1 0x4040_0000)
+      then writes 0x80 (one 0x88) present then takes (amperes 9 0x4040_0000) then takes (amperes 16 0x4040_0000)
+      then reads 0x0F (words (0x0100_0100 ∷ 0x0203_0300 ∷ 0x0203_0300 ∷ [])) present then reads 0x112 (four 0x8181_8181) present
       then reads 0x11F (four 0x0100_0100) present then writes 0x90 (one 0x00) present
       then reads 0x0F (words (0x0100_0100 ∷ 0x0203_0300 ∷ 0x0201_0300 ∷ [])) present
       then reads 0x0F (words (0x0100_0100 ∷ 0x0203_0300 ∷ 0x0201_0300 ∷ [])) present then reads 0x112 (four 0x8181_8081) present

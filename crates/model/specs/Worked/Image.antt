@@ -1,9 +1,10 @@
 -- Worked boxes: the setup image by its bytes, what power-up takes, and what is stored. The proof is in proofs/Worked/Image.antt.
 use mathlib.Core.Path.{_≡_}
-use mathlib.Core.Bool.{true}
+use mathlib.Core.Bool.{true, false}
 use mathlib.Core.List.{List, [], _∷_, _++_, map}
 use Prim.Native.Nat.{ℕ, _+_, _-_, _*_, _%_}
 use lib.ListN.{length, take, drop, replicate}
+use Rattle.model.specs.Image.{countsRight, entryAllowed}
 use Rattle.model.specs.Calls.{level, run, powerUp, powerUpAnswer, storeAnswer}
 use Rattle.model.specs.Worked.{one, two, four, words, Case, calm, past, answering, _then_, writes, takes, ticks, callOf, boxOf}
 use Rattle.model.specs.Worked.{noEntry, wireBox}
@@ -52,32 +53,45 @@ pub record Try : Type 0 where
 abbrev pub try : ℕ → List ℕ → ℕ → Try
 try at bs n = record { at = at; bytes = bs; number = n }
 
--- what the rules answer, at places counted from `base` on
-abbrev pub tried : ℕ → List Try → List ℕ
-tried base [] = []
-tried base (t ∷ ts) = powerUpAnswer (summed (withBytes (base + t .at) (t .bytes))) .number ∷ tried base ts
+-- what the rules answer
+abbrev pub tried : List Try → List ℕ
+tried [] = []
+tried (t ∷ ts) = powerUpAnswer (summed (withBytes (t .at) (t .bytes))) .number ∷ tried ts
 
 abbrev pub numbersOf : List Try → List ℕ
 numbersOf [] = []
 numbersOf (t ∷ ts) = t .number ∷ numbersOf ts
 
--- counts, ModuleConfig and WDPreset
-abbrev pub moduleTries : List Try
-moduleTries =
-    try 1 (one 0xFF) 0 ∷ try 2 (one 0x10) 0 ∷ try 2 (one 0x20) 13 ∷ try 2 (one 0x01) 13 ∷ try 3 (two 0xFFFF) 0 ∷ try 5 (four 0x7FFF_FFFF) 0 ∷ try 5
-    (four 0x8000_0000) 13 ∷ try 0 (one 0x02) 11 ∷ try 0 (one 0x00) 11 ∷ try 9 (one 0x0F) 11 ∷ try 9 (one 0x11) 11 ∷ try 714 (one 0x02) 11 ∷ try 714
-    (one 0x00) 11 ∷ []
+-- a count, ModuleConfig and WDPreset, and an entry, the first and the last, that is not allowed
+abbrev pub tries : List Try
+tries =
+    try 9 (one 0x11) 11 ∷ try 2 (one 0x20) 13 ∷ try 1 (four 0xFF10_FFFF) 0 ∷ try 5 (four 0x7FFF_FFFF) 0 ∷ try 5 (four 0x8000_0000) 13 ∷ try 11 (one
+    0x40) 13 ∷ try 673 (one 0x11) 13 ∷ try 686 (four 0x3F80_0001) 13 ∷ []
 
--- an entry: ChConfig, presets of 0 to 2147483647, limits of 0 to 1 with -0, and 24 bytes that may be any
-abbrev pub entryTries : List Try
-entryTries =
-    try 0 (one 0xFF) 0 ∷ try 1 (one 0x40) 13 ∷ try 1 (one 0x51) 13 ∷ try 1 (one 0x50) 0 ∷ try 1 (one 0x20) 0 ∷ try 1 (one 0x30) 0 ∷ try 1 (one 0x00) 0
-    ∷ try 2 (one 0x10) 0 ∷ try 2 (one 0x11) 13 ∷ try 3 (one 0x10) 0 ∷ try 3 (one 0x11) 13 ∷ try 4 (four 0x7FFF_FFFF) 0 ∷ try 4 (four 0x8000_0000) 13 ∷
-    try 8 (four 0x7FFF_FFFF) 0 ∷ try 8 (four 0x8000_0000) 13 ∷ try 12 (four 0x3F80_0000) 0 ∷ try 12 (four 0x3F80_0001) 13 ∷ try 12 (four 0x8000_0000)
-    0 ∷ try 12 (four 0x8000_0001) 13 ∷ try 12 (four 0x7FC0_0000) 13 ∷ try 16 (four 0x3F80_0000) 0 ∷ try 16 (four 0x3F80_0001) 13 ∷ try 16 (four
-    0x8000_0000) 0 ∷ try 16 (four 0x8000_0001) 13 ∷ try 16 (four 0x7FC0_0000) 13 ∷ try 20 (replicate 24 0xFF) 0 ∷ []
+-- a count one lower and one higher, each of the three
+abbrev pub otherCounts : List (List ℕ)
+otherCounts =
+    withBytes 0 (one 0) ∷ withBytes 0 (one 2) ∷ withBytes 9 (one 15) ∷ withBytes 9 (one 17) ∷ withBytes 714 (one 0) ∷ withBytes 714 (one 2) ∷ []
 
--- 16 entries of such bytes: their sum is above 65535
+-- ---- an entry with these bytes at a place
+infix 20 _at_
+abbrev pub _at_ : ℕ → List ℕ → List ℕ
+n at bs = take n ownBytes ++ (bs ++ drop (n + length bs) ownBytes)
+
+-- any Enablebit; the five Functions; no channel or one; presets of 0 to 2147483647; limits of 0 to 1, and -0; 24 bytes that may be any
+abbrev pub allowedEntries : List (List ℕ)
+allowedEntries =
+    (0 at one 0xFF) ∷ (1 at one 0x50) ∷ (1 at one 0x20) ∷ (1 at one 0x30) ∷ (1 at one 0x00) ∷ (2 at one 0x10) ∷ (3 at one 0x10) ∷ (4 at four
+    0x7FFF_FFFF) ∷ (8 at four 0x7FFF_FFFF) ∷ (12 at four 0x3F80_0000) ∷ (12 at four 0x8000_0000) ∷ (16 at four 0x3F80_0000) ∷ (16 at four 0x8000_0000)
+    ∷ (20 at replicate 24 0xFF) ∷ []
+
+abbrev pub refusedEntries : List (List ℕ)
+refusedEntries =
+    (1 at one 0x40) ∷ (1 at one 0x51) ∷ (2 at one 0x11) ∷ (3 at one 0x11) ∷ (4 at four 0x8000_0000) ∷ (8 at four 0x8000_0000) ∷ (12 at four
+    0x3F80_0001) ∷ (12 at four 0x8000_0001) ∷ (12 at four 0x7FC0_0000) ∷ (16 at four 0x3F80_0001) ∷ (16 at four 0x8000_0001) ∷ (16 at four
+    0x7FC0_0000) ∷ []
+
+-- 16 entries with such bytes: their sum is above 65535
 abbrev pub fullImage : List ℕ
 fullImage = together (one 1 ∷ four 0x0010_0000 ∷ four 0 ∷ one 16 ∷ together (replicate 16 (replicate 20 0 ++ replicate 24 0xFF)) ∷ one 1 ∷ two 0x7EA2 ∷ [])
 
@@ -113,15 +127,16 @@ pub record Stores : Type 0 where
   pub accepted : powerUpAnswer wireImage .number ≡ 0
   pub restored : powerUp wireImage ≡ wireBox
   pub stored : storeAnswer wireBox (replicate 720 0xA5) ≡ answering 0 717 (wireImage ++ replicate 3 0xA5) calm
-  -- Questions 10 to 13: a byte too many, wrong sums, and what an image may hold, in its first entry and in its last
+  -- Questions 10 to 13: a byte too many, wrong sums, and what an image and an entry may hold
   pub longer : powerUpAnswer (wireImage ++ one 0) .number ≡ 10
   pub low-sum : powerUpAnswer (withBytes 716 (one 0x89)) .number ≡ 12
   pub high-sum : powerUpAnswer (withBytes 715 (one 0x10)) .number ≡ 12
   pub summand : powerUpAnswer (withBytes 713 (one 0x01)) .number ≡ 12
   pub large-sum : powerUpAnswer fullImage .number ≡ 0
-  pub modules : tried 0 moduleTries ≡ numbersOf moduleTries
-  pub first : tried 10 entryTries ≡ numbersOf entryTries
-  pub last : tried 670 entryTries ≡ numbersOf entryTries
+  pub tried-images : tried tries ≡ numbersOf tries
+  pub counts : map countsRight otherCounts ≡ replicate 6 false
+  pub allowed : map entryAllowed allowedEntries ≡ replicate 14 true
+  pub not-allowed : map entryAllowed refusedEntries ≡ replicate 12 false
   -- Questions 17: the box of a refused power-up has settings of zeros
   pub refused : powerUp [] ≡ boxOf 0 0 (replicate 16 noEntry)
   -- A channel 17 and Setup image 4: what is kept of writes with WriteEnable, and of writes without it

@@ -123,14 +123,14 @@ pub record Ticks : Type 0 where
       0x3EC8_0000 ∷ 0x3EC8_0000 ∷ []) then ticks 2
       then bytesFrom 0x10 16 present (0x08 ∷ 0x08 ∷ 0x8E ∷ 0x08 ∷ 0x08 ∷ 0x82 ∷ 0x00 ∷ 0x00 ∷ 0x00 ∷ 0x8A ∷ []) then wordsFrom 0x11 16 present
       (0xBD40_0000 ∷ 0xBE00_0000 ∷ 0x3D40_0000 ∷ 0 ∷ 0xBDC0_0000 ∷ 0xBDC0_0000 ∷ 0x3E88_0000 ∷ 0x3E88_0000 ∷ 0x3F58_0000 ∷ 0x3D00_0000 ∷ []))
-  -- A tick 1 and Calls 4: WDTimer runs out at the third tick after a wire call, and clears every OutFlag and Control; His bit 3; a preset in time; the
-  --  watchdog off
+  -- A tick 1 and Calls 4: WDTimer runs out at the third tick after a wire call, and clears every OutFlag and Control; His bit 3; a preset in time, by
+  --  wire calls alone; the watchdog off
   pub watchdog : Plays watchdogBox
       (writes 0x10 (one 0x80) past then writes 0x20 (one 0x88) past then writes 0x40 (one 0x88) past
       then reads 0x0F (words (0x8000_0000 ∷ 0 ∷ 0 ∷ [])) past then ticks 2 then reads 0x08 (four 0x3C80_0000) present
-      then reads 0x110 (two 0x000B) present then ticks 3 then reads 0x0F (words (0x0900_0000 ∷ 0x1600_0200 ∷ 0 ∷ [])) past
-      then reads 0x0F (words (0x0100_0000 ∷ 0x1600_0200 ∷ 0 ∷ [])) past then reads 0x110 (two 0) past
-      then bytesFrom 0x10 16 past (0x04 ∷ 0x00 ∷ 0x00 ∷ 0x00 ∷ [])
+      then reads 0x110 (two 0x000B) present then takes tick then takes (level 3 false) then takes (amperes 3 0x0000_0000) then ticks 2
+      then reads 0x0F (words (0x0900_0000 ∷ 0x1600_0200 ∷ 0 ∷ [])) past then reads 0x0F (words (0x0100_0000 ∷ 0x1600_0200 ∷ 0 ∷ [])) past
+      then reads 0x110 (two 0) past then bytesFrom 0x10 16 past (0x04 ∷ 0x00 ∷ 0x00 ∷ 0x00 ∷ [])
       then wordsFrom 0x16 16 past (0x407A_0000 ∷ 0x407A_0000 ∷ 0xBE20_0000 ∷ 0x407A_0000 ∷ [])
       then wordsFrom 0x11 16 past (0xBE20_0000 ∷ 0x4072_0000 ∷ 0xBE20_0000 ∷ 0x4072_0000 ∷ []) then reads 0x08 (four 0x3DA0_0000) past
       then writes 0x10 (one 0x80) past then writes 0x0D (one 0x01) past then writes 0x09 (four 0x0010_0000) past then ticks 4

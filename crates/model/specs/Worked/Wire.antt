@@ -7,8 +7,8 @@ use Rattle.model.specs.Worked.{wordsFrom, Plays, wireBox}
 pub record Wire : Type 0 where
   -- Registers and Setup image 2: what each register reads after power-up; reading CommonError acknowledges His bit 7
   pub power-up : Plays wireBox
-      (reads 0x10 (one 0x00) past then wordsFrom 0x11 1 past (0 ∷ 0x0102_0304 ∷ 0 ∷ 0x47A0_B0C0 ∷ 0x5152_5354 ∷ 0 ∷ 0x44A0_C0E0 ∷ 0x4510_A0B0 ∷
-      0x0010_0203 ∷ 0x3E00_0000 ∷ 0x3F00_0000 ∷ []) then reads 0x1C (words (0xC1C2_C3C4 ∷ 0xC5C6_C7C8 ∷ [])) past
+      (reads 0x08 (four 0x3F81_0000) past then reads 0x10 (one 0x00) past then wordsFrom 0x11 1 past (0 ∷ 0x0102_0304 ∷ 0 ∷ 0x47A0_B0C0 ∷ 0x5152_5354
+      ∷ 0 ∷ 0x44A0_C0E0 ∷ 0x4510_A0B0 ∷ 0x0010_0203 ∷ 0x3E00_0000 ∷ 0x3F00_0000 ∷ []) then reads 0x1C (words (0xC1C2_C3C4 ∷ 0xC5C6_C7C8 ∷ [])) past
       then reads 0x1D (four 0xD1D2_D3D4) past then reads 0x1F (four 0) past then reads 0x00 (two 0x011F) past then reads 0x03 (one 0x00) past
       then wordsFrom 0x07 1 past (0 ∷ 0x3F81_0000 ∷ 0x8100_8283 ∷ 0x3F81_0000 ∷ []) then reads 0x0D (one 0x00) past then reads 0x110 (two 0) past
       then reads 0x111 (two 0) past then reads 0x112 (four 0) past then reads 0x11F (four 0) past
