@@ -97,18 +97,18 @@ wordsFrom n by b [] = []
 wordsFrom n by b (x ∷ xs) = reads n (four x) b ++ wordsFrom (n + by) by b xs
 
 -- ---- what the rules answer, call after call
-abbrev pub callOf : Case → Request
-callOf c = c .call
+abbrev pub callIn : Case → Request
+callIn c = c .call
 
-abbrev pub answerOf : Case → Answer
-answerOf c = c .answer
+abbrev pub answerIn : Case → Answer
+answerIn c = c .answer
 
 unfoldable pub played : Module → List Request → List Answer
 played m [] = []
 played m (x ∷ xs) = let s = step m x in s .answer ∷ played (s .box) xs
 
 abbrev pub Plays : Module → List Case → Type 0
-Plays m cs = played m (map callOf cs) ≡ map answerOf cs
+Plays m cs = played m (map callIn cs) ≡ map answerIn cs
 
 -- ---- boxes, powered up: ModuleConfig's four bytes, the count of WDPreset, and the channels' entries
 abbrev pub configOf : ℕ → Config

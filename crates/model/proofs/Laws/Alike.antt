@@ -1,6 +1,5 @@
 -- Two boxes that are alike for a channel c, where ns are the channels that c may name: their shared records are equal, and so are c itself and, of each
--- channel that c
--- may name, what decides its InFlag. Each rule keeps boxes alike. Assumes nothing.
+-- channel that c may name, what decides its InFlag. Each rule keeps boxes alike. Assumes nothing.
 use mathlib.Core.Path.{_≡_, refl, sym, _∙_, ap, subst}
 use mathlib.Core.Logic.{_≢_}
 use mathlib.Core.Bool.{Bool, true, false, cond, not, _&&_}

@@ -1,6 +1,5 @@
 -- What decides a channel's InFlag and Counter, with the references that it names: the part of a channel that another may learn, and that a list of calls
--- tells. For each rule,
--- what it does to that part. Assumes nothing.
+-- tells. For each rule, what it does to that part. Assumes nothing.
 use mathlib.Core.Path.{_≡_, refl, _∙_, ap}
 use mathlib.Core.Bool.{Bool, true, false, cond, not, _&&_, Bool·beq}
 use mathlib.Core.List.{List}

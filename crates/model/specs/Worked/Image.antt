@@ -6,7 +6,7 @@ use Prim.Native.Nat.{ℕ, _+_, _-_, _*_, _%_}
 use lib.ListN.{length, take, drop, replicate}
 use Rattle.model.specs.Image.{countsRight, entryAllowed}
 use Rattle.model.specs.Calls.{level, run, powerUp, powerUpAnswer, storeAnswer}
-use Rattle.model.specs.Worked.{one, two, four, words, Case, calm, past, answering, _then_, writes, takes, ticks, callOf, boxOf}
+use Rattle.model.specs.Worked.{one, two, four, words, Case, calm, past, answering, _then_, writes, takes, ticks, callIn, boxOf}
 use Rattle.model.specs.Worked.{noEntry, wireBox}
 
 -- ---- the image of `wireBox`, by its sections
@@ -97,7 +97,7 @@ fullImage = together (one 1 ∷ four 0x0010_0000 ∷ four 0 ∷ one 16 ∷ toget
 
 -- ---- Setup image 4: what is stored of channel k after calls
 abbrev pub storedEntry : ℕ → List Case → List ℕ
-storedEntry k cs = take 44 (drop (10 + (k - 1) * 44) (storeAnswer (run wireBox (map callOf cs)) (replicate 717 0) .buffer))
+storedEntry k cs = take 44 (drop (10 + (k - 1) * 44) (storeAnswer (run wireBox (map callIn cs)) (replicate 717 0) .buffer))
 
 -- writes of every kept register of channel 1 with WriteEnable
 abbrev pub enabledWrites : List Case
