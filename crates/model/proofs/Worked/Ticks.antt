@@ -37,6 +37,7 @@ unfolding played Calls.cleared Calls.watchdogPreset Calls.step Calls.run Calls.p
     Written.below Written.upTo ofBits toBits ofInt le lt Calls.storeAnswer xor
 worked-ticks =
     record {
+      trips = refl;
       feedback = refl;
       errors = refl;
       functions = refl;

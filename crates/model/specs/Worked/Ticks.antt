@@ -67,7 +67,15 @@ watchdogBox =
     boxOf 0x0000_0000 20
     (entry 0x0010_0500 1000 0 ∷ entry 0x0020_0000 1000 1000 ∷ entry 0x0000_0000 1000 0 ∷ entry 0x0030_0000 1000 1000 ∷ replicate 12 noEntry)
 
+-- an output with FBPreset 40; the watchdog off
+abbrev pub tripBox : Module
+tripBox = boxOf 0x0010_0000 0 (entry 0x0010_0000 40 0 ∷ replicate 15 noEntry)
+
 pub record Ticks : Type 0 where
+  -- A tick 4: above 2 A the tick trips an output that was put on again, while FBTimer still runs, and the change rule starts FBTimer anew
+  pub trips : Plays tripBox
+      (takes (amperes 1 0x4040_0000) then writes 0x10 (one 0x80) past then reads 0x10 (one 0x80) past then takes tick then reads 0x10 (one 0x02) present
+      then reads 0x16 (four 0x3E20_0000) present then reads 0x1F (four 0x4800_4800) present)
   -- A tick 5: the looks at ticks 4 and 8, channels 1 to 16 with each sense of A and B, output on and off, simulated or not; FBTimer and bit 1; operating
   --  time
   pub feedback : Plays feedbackBox
@@ -124,7 +132,7 @@ pub record Ticks : Type 0 where
       then bytesFrom 0x10 16 present (0x08 ∷ 0x08 ∷ 0x8E ∷ 0x08 ∷ 0x08 ∷ 0x82 ∷ 0x00 ∷ 0x00 ∷ 0x00 ∷ 0x8A ∷ []) then wordsFrom 0x11 16 present
       (0xBD40_0000 ∷ 0xBE00_0000 ∷ 0x3D40_0000 ∷ 0 ∷ 0xBDC0_0000 ∷ 0xBDC0_0000 ∷ 0x3E88_0000 ∷ 0x3E88_0000 ∷ 0x3F58_0000 ∷ 0x3D00_0000 ∷ []))
   -- A tick 1 and Calls 4: WDTimer runs out at the third tick after a wire call, and clears every OutFlag and Control; His bit 3; a preset in time, by
-  --  wire calls alone; the watchdog off
+  -- wire calls alone; the watchdog off
   pub watchdog : Plays watchdogBox
       (writes 0x10 (one 0x80) past then writes 0x20 (one 0x88) past then writes 0x40 (one 0x88) past
       then reads 0x0F (words (0x8000_0000 ∷ 0 ∷ 0 ∷ [])) past then ticks 2 then reads 0x08 (four 0x3C80_0000) present
