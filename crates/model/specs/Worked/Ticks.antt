@@ -143,4 +143,6 @@ pub record Ticks : Type 0 where
       then wordsFrom 0x11 16 past (0xBE20_0000 ∷ 0x4072_0000 ∷ 0xBE20_0000 ∷ 0x4072_0000 ∷ []) then reads 0x08 (four 0x3DA0_0000) past
       then writes 0x10 (one 0x80) past then writes 0x0D (one 0x01) past then writes 0x09 (four 0x0010_0000) past then ticks 4
       then reads 0x08 (four 0) present then reads 0x110 (two 0x0001) present
-      then reads 0x0F (words (0x0100_0100 ∷ 0x1600_0200 ∷ 0x0200_0200 ∷ [])) present then reads 0x07 (four 0x0000_0048) present)
+      then reads 0x0F (words (0x0100_0100 ∷ 0x1600_0200 ∷ 0x0200_0200 ∷ [])) present then reads 0x07 (four 0x0000_0048) present
+      then writes 0x09 (four 0) present then ticks 3 then writes 0x16 (four 0x3F80_0000) past
+      then reads 0x0F (words (0x0900_0000 ∷ 0x1600_0200 ∷ 0 ∷ [])) past)
