@@ -1,5 +1,8 @@
 -- The code's place and the model's are the same four cases. Definitions only.
-use Prim.Native.Nat.{_≤_}
+use mathlib.Core.Path.{_≡_}
+use mathlib.Core.Bool.{cond}
+use Prim.Native.Nat.{ℕ, _-_, _≤_}
+use Rattle.model.specs.Settings.{isDigital}
 use Rattle.model.specs.Registers as Table
 use Rattle.registers.specs.declared.Place.{Place}
 use Rattle.registers.specs.declared.Place.the-variants.{Service, Digital, Common, Unlisted}
@@ -17,3 +20,14 @@ Within (Table.service r) = Unit {0}
 Within (Table.digital k r) = (1 ≤ k) × (k ≤ 16)
 Within (Table.common r) = Unit {0}
 Within Table.unlisted = Unit {0}
+
+-- ---- the place of channel k among the sixteen, counted from 0; that of channel 1 where k is no channel's number
+abbrev pub slotOf : ℕ → ℕ
+slotOf k = cond (isDigital k) (k - 1) 0
+
+-- i is the place of the channel that a register is of, where it is a digital channel's
+abbrev pub OfChannel : ℕ → Table.Place → Type 0
+OfChannel i (Table.service r) = Unit {0}
+OfChannel i (Table.digital k r) = i ≡ k - 1
+OfChannel i (Table.common r) = Unit {0}
+OfChannel i Table.unlisted = Unit {0}

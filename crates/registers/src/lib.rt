@@ -1,9 +1,10 @@
 // The register table: what a SWNo names, and each register's access and size. Nothing above this
 // crate sees a register's number.
 ghost use mathlib.Core.Path.{_≡_};
+ghost use Prim.Native.Nat.{_/_, _<_};
 ghost use Rattle.model.specs.Registers as Table;
 ghost use Rattle.model.specs.Questions.{isWritable, isProtected};
-ghost use Rattle.registers.specs.Places.{placed};
+ghost use Rattle.registers.specs.Places.{placed, slotOf};
 use model::Access;
 use model::CommonRegister;
 use model::DigitalRegister;
@@ -85,6 +86,27 @@ pub fn place_of(swno: u16) -> Place
         return Place::Unlisted;
     }
     digital_place(channel as u8, register)
+}
+
+// A channel's place among the sixteen, counted from 0. For a number that is no channel's it is that
+// of channel 1.
+pub fn slot(channel: usize) -> usize
+    ensures { λ r. ⌜ (r ≡ slotOf channel) × (r < 16) ⌝ }
+{
+    if channel < 1 {
+        return 0;
+    }
+    if 16 < channel {
+        return 0;
+    }
+    channel - 1
+}
+
+// That of a SWNo's channel.
+pub fn wire_slot(swno: u16) -> usize
+    ensures { λ r. ⌜ (r ≡ slotOf (swno / 16)) × (r < 16) ⌝ }
+{
+    slot((swno / 0x10) as usize)
 }
 
 fn service_access(r: ServiceRegister) -> Access

@@ -3,6 +3,7 @@
 ghost use mathlib.Core.Path.{_≡_};
 ghost use Rattle.model.specs.Settings.{functionOf, notInput, isSpecial, referenceOf, isSet, functions, refA, refB, hasReference, simulatesInput};
 ghost use Rattle.model.specs.Settings.{simulatesFeedback, enablesUnderload, silencesOverload, levelOf, inA, inB, output};
+ghost use Rattle.settings.specs.Levels.{levelsOf};
 use model::Channel;
 use model::Function;
 use model::Reference;
@@ -111,9 +112,9 @@ pub fn silences_overload(ch: Channel) -> bool
     ch.config.enablebit / 64 % 2 == 1
 }
 
-// InFlag of a reference, where levels are the InFlags of channels 1 to 16.
-pub fn level_of(levels: [bool; 16], r: Reference) -> bool
-    ensures { λ b. ⌜ b ≡ levelOf levels r ⌝ }
+// InFlag of a reference. Bit k-1 of levels is InFlag of channel k.
+pub fn level_of(levels: u16, r: Reference) -> bool
+    ensures { λ b. ⌜ b ≡ levelOf (levelsOf levels) r ⌝ }
 {
     match r {
         Reference::None => false,
@@ -125,13 +126,13 @@ pub fn level_of(levels: [bool; 16], r: Reference) -> bool
             if 16 < n {
                 return false;
             }
-            levels[n - 1]
+            (levels >> (n - 1)) % 2 == 1
         }
     }
 }
 
-pub fn in_a(levels: [bool; 16], ch: Channel) -> bool
-    ensures { λ r. ⌜ r ≡ inA levels ch ⌝ }
+pub fn in_a(levels: u16, ch: Channel) -> bool
+    ensures { λ r. ⌜ r ≡ inA (levelsOf levels) ch ⌝ }
 {
     if simulates_feedback(ch) {
         return ch.flags.out_flag;
@@ -139,8 +140,8 @@ pub fn in_a(levels: [bool; 16], ch: Channel) -> bool
     level_of(levels, ref_a(ch))
 }
 
-pub fn in_b(levels: [bool; 16], ch: Channel) -> bool
-    ensures { λ r. ⌜ r ≡ inB levels ch ⌝ }
+pub fn in_b(levels: u16, ch: Channel) -> bool
+    ensures { λ r. ⌜ r ≡ inB (levelsOf levels) ch ⌝ }
 {
     if simulates_feedback(ch) {
         return !ch.flags.out_flag;

@@ -1,6 +1,9 @@
 -- `level_of` meets its contract. Assumes nothing.
+use Prim.Native.Nat.{_-_, _<_}
+use native.Mathlib.Omega.{arith}
 use borrow.Author.Needs.{needs}
 use borrow.Author.Tests.{le-leb, lt-leb}
+use Rattle.settings.proofs.Laws.Levels.{level-at}
 use Rattle.settings.proofs.level_of.Statement.{statement}
 use Rattle.settings.proofs.level_of.Tie as tie
 
@@ -20,15 +23,21 @@ returns-2 : tie.Need-returns-2
 returns-2 c =
     simp (c .before .before .before .r .given .1, le-leb 1 _ (c .before .if1 .left), lt-leb _ 16 (c .if2 .taken))
 
-array-read-result : tie.Need-array-read-result
-array-read-result c = search needs
+cast-result : tie.Need-cast-result
+cast-result c = search needs
+
+shr-result : tie.Need-shr-result
+shr-result c = search needs
 
 returns-3 : tie.Need-returns-3
 returns-3 c = search needs
 
 returns-4 : tie.Need-returns-4
 returns-4 c =
-    simp (c .before .before .before .r .given .1, le-leb 1 _ (c .before .if1 .left), le-leb _ 16 (c .if2 .left))
+    let k = c .before .before .before .r .given .0 .0 in
+    let levels = c .before .before .before .before .before .args .levels in
+    let l : k - 1 < 16 = omega (arith, c .before .if1 .left, c .if2 .left) in
+    simp (c .before .before .before .r .given .1, le-leb 1 _ (c .before .if1 .left), le-leb _ 16 (c .if2 .left), level-at (k - 1) levels l)
 
 pub level-of-spec : {M : Type 1} → statement M
 level-of-spec =
@@ -39,6 +48,7 @@ level-of-spec =
     cast-n
     returns
     returns-2
-    array-read-result
+    cast-result
+    shr-result
     returns-3
     returns-4)
