@@ -1,29 +1,25 @@
 -- What the public functions answer, in the paper's numbers (`answerOf` of the model's Calls), beside the model's `step`, `powerUp` and `stored`. Definitions only.
 use mathlib.Core.Path.{_≡_}
-use mathlib.Core.Bool.{Bool, false, cond, _&&_}
+use mathlib.Core.Bool.{Bool, false, _&&_}
 use mathlib.Core.List.{List, []}
-use Prim.Native.Nat.{ℕ, _-_, _<_}
-use lib.ListN.{take, getD, set}
+use Prim.Native.Nat.{ℕ}
+use lib.ListN.{take}
 use Rattle.model.specs.declared.Call.{Call}
 use Rattle.model.specs.declared.Call.the-variants.{Read, Write, Level, Current, Tick}
-use Rattle.model.specs.declared.Channel.{Channel}
 use Rattle.model.specs.declared.Module.{Module}
 use Rattle.model.specs.declared.Reply.{Reply}
 use Rattle.model.specs.declared.Reply.the-variants.{Done}
 use Rattle.model.specs.declared.Service.{Service}
 use Rattle.model.specs.declared.Shared.{Shared}
-use Rattle.model.specs.State.{channelAt, nothing, withChannels}
+use Rattle.model.specs.State.{channelAt}
 use Rattle.model.specs.Settings.{isDigital, output}
 use Rattle.model.specs.Questions.{numberOf}
 use Rattle.model.specs.Calls.{Request, read, write, level, current, tick, Stepped, answerOf, step, powerUp, powerUpAnswer, storeAnswer}
 use Rattle.model.specs.Image.{setupOf, encode, imageSize}
 use Rattle.model.specs.Images.{Reached, PowersUpTo}
 use Rattle.model.specs.TwoLists.{LearnsNothing}
-use Rattle.reads.specs.Reading.{putBack}
 use Rattle.pd3120.specs.declared.Answered.{Answered}
-use Rattle.pd3120.specs.declared.Changed.{Changed}
 use Rattle.pd3120.specs.declared.Sampled.{Sampled}
-use Rattle.pd3120.specs.declared.samples.Taken.{Taken}
 use Rattle.pd3120.specs.declared.Started.{Started}
 
 -- ---- the step of `step` that an answer says: its numbers, the lent buffer afterwards, and the box
@@ -38,23 +34,6 @@ sampleOf r = record { answer = answerOf (r .reply) [] false false; box = r .afte
 -- of a tick, which always answers 0
 abbrev pub tickOf : Module → Stepped
 tickOf after = record { answer = answerOf (Done 0) [] false false; box = after }
-
--- of a read that gives the two parts of the box m which it may change, put back in m; the channel is one of the sixteen
-abbrev pub readOf : Module → Changed → List ℕ → Stepped
-readOf m r buf = record { answer = answerOf (r .reply) buf (r .«data_error») (r .«general_error»); box = putBack (r .service) (r .at) (r .channel) m }
-
-abbrev pub ReadBy : Module → Request → Changed → List ℕ → Type 0
-ReadBy m x r buf = (r .at < 16) × (readOf m r buf ≡ step m x)
-
--- of a sample that takes the shared record and a channel, and gives the channel back: for every box that has them, the channel at place i, counted from 0
-abbrev pub SampleBy : Request → Shared → Channel → ℕ → Taken → Type 0
-SampleBy x s ch i r =
-    (m : Module) → m .shared ≡ s → getD (m .channels) i nothing ≡ ch →
-    record { answer = answerOf (r .reply) [] false false; box = withChannels (set (m .channels) i (r .after)) m } ≡ step m x
-
--- the place of a sample's channel; that of channel 1 where the number is no channel's
-abbrev pub sampleSlot : ℕ → ℕ
-sampleSlot k = cond (isDigital k) (k - 1) 0
 
 -- ---- the clearing and the preset of a wire call
 -- r is the service record that f leaves of any box with the record v, and, where f looks at it, the shared record s

@@ -3,20 +3,24 @@
 ghost use mathlib.Core.Path.{_≡_};
 ghost use mathlib.Core.Bool.{false};
 ghost use mathlib.Core.List.{[]};
+ghost use Rattle.model.specs.Errors.{dataError, generalError};
 ghost use Rattle.model.specs.Calls.{read, write, level, current, tick, step, cleared, watchdogPreset};
-ghost use Rattle.pd3120.specs.Answers.{stepOf, sampleOf, tickOf, ReadBy, outputAt, requestOf, answerBuffer, lentAfter, RecordBy, SharedBy, PoweredUp};
+ghost use Rattle.pd3120.specs.Answers.{stepOf, sampleOf, tickOf, outputAt, requestOf, answerBuffer, lentAfter, RecordBy, SharedBy, PoweredUp};
 ghost use Rattle.pd3120.specs.Answers.{StoredBy};
+ghost use Rattle.pd3120.specs.Parts.{ReadBy, WriteBy};
 
 pub mod replies;
 pub mod samples;
 
 use errors::words;
+use errors::words::Words;
 use model::Call;
 use model::Channel;
 use model::Module;
 use model::Reply;
 use model::Service;
 use model::Shared;
+use writes::Begun;
 
 // What power-up answers, and the box.
 pub struct Started {
@@ -32,13 +36,18 @@ pub struct Answered {
     pub general_error: bool,
 }
 
-// What a read answers, and the two parts of the box that it may change: the service record and a
-// channel, counted from 0.
+// What a read answers, and the two parts of the box that it may change: the service record and the
+// SWNo's channel.
 pub struct Changed {
     pub service: Service,
-    pub at: usize,
     pub channel: Channel,
     pub reply: Reply,
+    pub data_error: bool,
+    pub general_error: bool,
+}
+
+// DataError and GeneralError.
+pub struct WireBits {
     pub data_error: bool,
     pub general_error: bool,
 }
@@ -88,39 +97,60 @@ fn preset_watchdog(s: Shared, v: Service) -> Service
     next
 }
 
-// For a caller that holds the box in its own memory and puts the parts back itself. The two bits are
-// those before the acknowledgement.
-pub fn read_changes(m: Module, swno: u16, buf: &mut [u8]) -> Changed
-    ensures { λ r. ⌜ ReadBy m (read swno (now (buf .entry))) r (now (buf .exit)) ⌝ }
+// The two bits, as they are in a box.
+pub fn error_bits(m: Module) -> WireBits
+    ensures { λ r. ⌜ r ≡ record { «data_error» = dataError m; «general_error» = generalError m } ⌝ }
 {
-    let shared = m.shared;
+    let service = m.service;
     let channels = m.channels;
-    let ready = clear(m.service);
-    let done = reads::read(shared, ready, channels, swno, buf);
+    let any = words::any_errors(channels);
+    WireBits {
+        data_error: errors::data_error(service, any.act),
+        general_error: errors::general_error(service, any.his),
+    }
+}
+
+// For a caller that holds the box in its own memory and puts the parts back itself: s, v, ch and w are
+// the box's shared and service records, the SWNo's channel, and the words of all channels. The two
+// bits are those before the acknowledgement.
+pub fn read_changes(
+    s: Shared,
+    v: Service,
+    ch: Channel,
+    w: Words,
+    swno: u16,
+    buf: &mut [u8],
+) -> Changed
+    ensures { λ r. ⌜ ReadBy s v ch w swno (now (buf .entry)) r (now (buf .exit)) ⌝ }
+{
+    let ready = clear(v);
+    let done = reads::read(s, ready, ch, w, swno, buf);
     let left = done.service;
     let channel = done.channel;
     let reply = done.reply;
-    let w = done.words;
     Changed {
-        service: preset_watchdog(shared, left),
-        at: done.at,
+        service: preset_watchdog(s, left),
         channel: channel,
         reply: reply,
-        data_error: errors::data_error(ready, w),
-        general_error: errors::general_error(ready, w),
+        data_error: errors::data_error(ready, w.act != 0),
+        general_error: errors::general_error(ready, w.his != 0),
     }
 }
 
 pub fn read(m: Module, swno: u16, buf: &mut [u8]) -> Answered
     ensures { λ r. ⌜ stepOf r (now (buf .exit)) ≡ step m (read swno (now (buf .entry))) ⌝ }
 {
-    let done = read_changes(m, swno, buf);
-    let service = done.service;
+    let at = registers::wire_slot(swno);
+    let shared = m.shared;
+    let service = m.service;
+    let channels = m.channels;
+    let ch = channels[at];
+    let done = read_changes(shared, service, ch, words::of_channels(channels), swno, buf);
+    let left = done.service;
     let channel = done.channel;
     let reply = done.reply;
-    let at = done.at;
     let mut next = m;
-    next.service = service;
+    next.service = left;
     next.channels[at] = channel;
     Answered {
         after: next,
@@ -128,6 +158,20 @@ pub fn read(m: Module, swno: u16, buf: &mut [u8]) -> Answered
         data_error: done.data_error,
         general_error: done.general_error,
     }
+}
+
+// For a caller that holds the box in its own memory: the records and the SWNo's channel that it puts
+// back, and what `writes::each` is then to do to the first channels.
+pub fn begin_write(s: Shared, v: Service, ch: Channel, swno: u16, bytes: &[u8]) -> Begun
+    ensures { λ r. ⌜ WriteBy s v ch swno (now (bytes .entry)) r ⌝ }
+{
+    let ready = clear(v);
+    let begun = writes::begin(s, ready, ch, swno, bytes);
+    let shared = begun.shared;
+    let left = begun.service;
+    let mut next = begun;
+    next.service = preset_watchdog(shared, left);
+    next
 }
 
 // The two bits are those after the effect.
@@ -142,15 +186,14 @@ pub fn write(m: Module, swno: u16, bytes: &[u8]) -> Answered
     let after = done.after;
     let shared = after.shared;
     let left = after.service;
-    let channels = after.channels;
-    let w = words::words(channels);
+    let bits = error_bits(after);
     let mut next = after;
     next.service = preset_watchdog(shared, left);
     Answered {
         after: next,
         reply: reply,
-        data_error: errors::data_error(left, w),
-        general_error: errors::general_error(left, w),
+        data_error: bits.data_error,
+        general_error: bits.general_error,
     }
 }
 

@@ -3,7 +3,8 @@
 ghost use mathlib.Core.Path.{_≡_};
 ghost use Prim.Native.Nat.{_<_};
 ghost use Rattle.model.specs.Calls.{level, current};
-ghost use Rattle.pd3120.specs.Answers.{sampleSlot, SampleBy};
+ghost use Rattle.registers.specs.Places.{slotOf};
+ghost use Rattle.pd3120.specs.Parts.{SampleBy};
 use model::Channel;
 use model::Reply;
 use model::Shared;
@@ -17,21 +18,14 @@ pub struct Taken {
 // The channel's place, counted from 0. For a number that is no channel's it is that of channel 1,
 // which the refused sample leaves as it is.
 pub fn slot(channel: u8) -> usize
-    ensures { λ r. ⌜ (r ≡ sampleSlot channel) × (r < 16) ⌝ }
+    ensures { λ r. ⌜ (r ≡ slotOf channel) × (r < 16) ⌝ }
 {
-    let k = channel as usize;
-    if k < 1 {
-        return 0;
-    }
-    if 16 < k {
-        return 0;
-    }
-    k - 1
+    registers::slot(channel as usize)
 }
 
 // A level does not look at s; both samples have one shape.
 pub fn take_level(s: Shared, ch: Channel, channel: u8, on: bool) -> Taken
-    ensures { λ r. ⌜ SampleBy (level channel on) s ch (sampleSlot channel) r ⌝ }
+    ensures { λ r. ⌜ SampleBy (level channel on) s ch (slotOf channel) r ⌝ }
 {
     let reply = questions::level_reply(channel);
     match reply {
@@ -47,7 +41,7 @@ pub fn take_level(s: Shared, ch: Channel, channel: u8, on: bool) -> Taken
 }
 
 pub fn take_current(s: Shared, ch: Channel, channel: u8, amperes: f32) -> Taken
-    ensures { λ r. ⌜ SampleBy (current channel amperes) s ch (sampleSlot channel) r ⌝ }
+    ensures { λ r. ⌜ SampleBy (current channel amperes) s ch (slotOf channel) r ⌝ }
 {
     let reply = questions::current_reply(channel, amperes);
     match reply {
