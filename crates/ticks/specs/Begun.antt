@@ -20,6 +20,6 @@ begunOf m =
       levels = wordOf (map inFlag (m .channels));
     }
 
--- steps 2 to 7 on one channel
+-- one channel: off where the watchdog ran out, then steps 2 to 7
 unfoldable pub tickedBy : Begun → Channel → Channel
 tickedBy b ch = channelTicked (b .shared) (b .«ran_out») (b .due) (levelsOf (b .levels)) ch

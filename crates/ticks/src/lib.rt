@@ -109,8 +109,9 @@ pub fn begin(m: Module) -> Begun
     let service = m.service;
     let channels = m.channels;
     let ran_out = runs_out(before, service.wd_timer);
+    let after = tick_shared(before);
     Begun {
-        shared: tick_shared(before),
+        shared: after,
         service: tick_service(ran_out, service),
         ran_out: ran_out,
         due: save_due(before),
@@ -125,8 +126,8 @@ fn tick_channel(s: Shared, ran_out: bool, due: bool, levels: u16, ch: Channel) -
     review::review(s, due, levels, drive::drive(s, ran_out, ch))
 }
 
-// The parts of a channel that a tick can change, from the channel after it; the others stay as they
-// stand in ch.
+// Takes from the channel after a tick only the parts that a tick can change, so that a caller who
+// writes the result over ch has only these to write.
 fn put_back(after: Channel, ch: Channel) -> Channel
     ensures { λ r. ⌜ r ≡ putBack after ch ⌝ }
 {
@@ -152,7 +153,7 @@ fn put_back(after: Channel, ch: Channel) -> Channel
     next
 }
 
-// Steps 2 to 7 on one channel.
+// One channel: off where the watchdog ran out, then steps 2 to 7.
 pub fn tick_one(b: Begun, ch: Channel) -> Channel
     ensures { λ r. ⌜ r ≡ tickedBy b ch ⌝ }
 {
@@ -160,7 +161,7 @@ pub fn tick_one(b: Begun, ch: Channel) -> Channel
     put_back(tick_channel(s, b.ran_out, b.due, b.levels, ch), ch)
 }
 
-// Steps 2 to 7, from channel 1 to 16.
+// From channel 1 to 16.
 fn tick_channels(b: Begun, channels: [Channel; 16]) -> [Channel; 16]
     ensures { λ r. ⌜ r ≡ map (tickedBy b) channels ⌝ }
 {

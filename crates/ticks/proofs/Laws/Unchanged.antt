@@ -139,8 +139,8 @@ unfolding Tick.driven
 left-driven s out ch =
     let off = Tick.shutDown out ch in
     let run = Tick.timersRun off in
-    let driven = Tick.special (functions run) run in
-    left-guarded s (changed (outFlag ch) driven) ∙ left-changed driven (outFlag ch) ∙ left-special (functions run) run ∙ left-timersRun off ∙ left-shutDown ch out
+    let x = Tick.special (functions run) run in
+    left-guarded s (changed (outFlag ch) x) ∙ left-changed x (outFlag ch) ∙ left-special (functions run) run ∙ left-timersRun off ∙ left-shutDown ch out
 
 left-looked : (s : Shared) (levels : List Bool) (ch : Channel) → rest (Tick.looked s levels ch) ≡ rest ch
 unfolding Tick.looked

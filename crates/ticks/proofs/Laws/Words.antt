@@ -13,9 +13,9 @@ use Rattle.model.specs.State.{nothing}
 use Rattle.model.specs.Errors.{bitValue, wordOf}
 
 -- the value of a bit
-pub bit-room : (n : ℕ) (b : Bool) → n ≡ bitValue b → n ≤ 1
-bit-room n true e = omega (arith, e)
-bit-room n false e = omega (arith, e)
+pub bit-room : (b : Bool) → bitValue b ≤ 1
+bit-room true = omega arith
+bit-room false = omega arith
 
 word-step : (k : ℕ) (bits : List Bool) → k < length bits → wordOf (drop (suc k) bits) * 2 + bitValue (getD bits k false) ≡ wordOf (drop k bits)
 word-step k bits h = rw (drop-cons bits k false) (omega arith)

@@ -3,9 +3,9 @@ use mathlib.Core.Path.{_≡_, refl}
 use mathlib.Core.List.{map}
 use Prim.Native.Nat.{suc, _-_, _≤_, _<_}
 use native.Mathlib.Omega.{arith}
-use lib.ListN.{length, getD, drop, drop-of-length-le, length-map}
+use lib.ListN.{length, drop, drop-of-length-le, length-map}
 use borrow.Author.Needs.{needs}
-use Rattle.model.specs.State.{inFlag, nothing}
+use Rattle.model.specs.State.{inFlag}
 use Rattle.model.specs.Errors.{wordOf}
 use Rattle.ticks.proofs.Laws.Words.{flag-step, flag-room, bit-room}
 use Rattle.ticks.proofs.levels.Statement.{statement}
@@ -50,7 +50,7 @@ add-r c =
     let cs = c .before .before .before .before .args .t1 in
     let n : length cs ≡ 16 = search needs in
     let h = flag-room inFlag (l .k) cs (l .r) n (omega arith) (l .inv .1) in
-    let b = bit-room _ (inFlag (getD cs (l .k - 1) nothing)) (c .bit .ensures) in
+    let b : c .bit .result ≤ 1 = rw (c .bit .ensures) (search bit-room) in
     omega arith
 
 loop-less : tie.Need-loop-less Inv-loop μ-loop

@@ -1,6 +1,5 @@
 -- `tick_one` meets its contract: what it does not put back, a tick leaves. Assumes nothing.
 use borrow.Author.Needs.{needs}
-use Rattle.settings.specs.Levels.{levelsOf}
 use Rattle.ticks.specs.Begun.{tickedBy}
 use Rattle.ticks.proofs.Laws.Unchanged.{put-back-ticked}
 use Rattle.ticks.proofs.tick_one.Statement.{statement}
