@@ -1,14 +1,29 @@
-// The whole tick, 1/32 s: step 1 on the shared record and the watchdog, then the channels, each by
-// itself against the InFlags of the tick's start.
+// The whole tick, 1/32 s: it begins with step 1 on the shared record and the watchdog, and then goes
+// over the channels, each by itself against the InFlags of the tick's start.
 ghost use mathlib.Core.Path.{_≡_};
 ghost use mathlib.Core.List.{map};
 ghost use Rattle.model.specs.State.{inFlag};
-ghost use Rattle.model.specs.Tick.{saveDue, tickShared, watchdogOn, isZero, runsOut, tickService, channelTicked, channelsTicked, ticked};
+ghost use Rattle.model.specs.Errors.{bitValue, wordOf};
+ghost use Rattle.model.specs.Tick.{saveDue, tickShared, watchdogOn, isZero, runsOut, tickService, channelTicked, ticked};
+ghost use Rattle.settings.specs.Levels.{levelsOf};
+ghost use Rattle.ticks.specs.Begun.{begunOf, tickedBy};
+ghost use Rattle.ticks.specs.PutBack.{putBack};
 use counts::TimerCount;
 use model::Channel;
 use model::Module;
 use model::Service;
 use model::Shared;
+
+// What a tick has worked out when it comes to the channels: the shared record and the service record
+// after step 1, whether the watchdog ran out, whether the tick saves, and the InFlags, bit k-1 for
+// channel k.
+pub struct Begun {
+    pub shared: Shared,
+    pub service: Service,
+    pub ran_out: bool,
+    pub due: bool,
+    pub levels: u16,
+}
 
 // Ten hours are 1152000 ticks. A count past them acts as the last.
 pub fn save_due(s: Shared) -> bool
@@ -65,34 +80,95 @@ pub fn tick_service(ran_out: bool, v: Service) -> Service
     next
 }
 
-// The InFlags of channels 1 to 16.
-pub fn levels(channels: [Channel; 16]) -> [bool; 16]
-    ensures { λ r. ⌜ r ≡ map inFlag channels ⌝ }
+fn bit(b: bool) -> u16
+    ensures { λ r. ⌜ r ≡ bitValue b ⌝ }
 {
-    let mut r = [false; 16];
-    for k in 0..16 {
+    if b { 1 } else { 0 }
+}
+
+// The InFlags, from channel 16 down, so that channel 1 comes to bit 0.
+pub fn levels(channels: [Channel; 16]) -> u16
+    ensures { λ r. ⌜ r ≡ wordOf (map inFlag channels) ⌝ }
+{
+    let mut r: u16 = 0;
+    let mut k = 16;
+    while 0 < k {
+        k -= 1;
         let ch = channels[k];
-        r[k] = ch.flags.in_flag;
+        let b = bit(ch.flags.in_flag);
+        r = r * 2 + b;
     }
     r
 }
 
+// Step 1, and what the channels will need of the box as the tick found it.
+pub fn begin(m: Module) -> Begun
+    ensures { λ r. ⌜ r ≡ begunOf m ⌝ }
+{
+    let before = m.shared;
+    let service = m.service;
+    let channels = m.channels;
+    let ran_out = runs_out(before, service.wd_timer);
+    let after = tick_shared(before);
+    Begun {
+        shared: after,
+        service: tick_service(ran_out, service),
+        ran_out: ran_out,
+        due: save_due(before),
+        levels: levels(channels),
+    }
+}
+
 // The two halves of the tick on one channel.
-fn tick_channel(s: Shared, ran_out: bool, due: bool, levels: [bool; 16], ch: Channel) -> Channel
-    ensures { λ r. ⌜ r ≡ channelTicked s «ran_out» due levels ch ⌝ }
+fn tick_channel(s: Shared, ran_out: bool, due: bool, levels: u16, ch: Channel) -> Channel
+    ensures { λ r. ⌜ r ≡ channelTicked s «ran_out» due (levelsOf levels) ch ⌝ }
 {
     review::review(s, due, levels, drive::drive(s, ran_out, ch))
 }
 
-// Steps 2 to 7, from channel 1 to 16.
-fn tick_channels(s: Shared, ran_out: bool, due: bool, channels: [Channel; 16]) -> [Channel; 16]
-    ensures { λ r. ⌜ r ≡ channelsTicked s «ran_out» due channels ⌝ }
+// Takes from the channel after a tick only the parts that a tick can change, so that a caller who
+// writes the result over ch has only these to write.
+fn put_back(after: Channel, ch: Channel) -> Channel
+    ensures { λ r. ⌜ r ≡ putBack after ch ⌝ }
+{
+    let out = after.out_timer;
+    let feedback = after.fb_timer;
+    let operating = after.operating;
+    let saved = after.kept;
+    let saved_operating = saved.operating;
+    let mut kept = ch.kept;
+    kept.counter = saved.counter;
+    kept.operating = saved_operating;
+    let mut next = ch;
+    next.flags.out_flag = after.flags.out_flag;
+    next.flags.control = after.flags.control;
+    next.flags.fb_status = after.flags.fb_status;
+    next.flags.internal_state = after.flags.internal_state;
+    next.out_timer = out;
+    next.fb_timer = feedback;
+    next.errors.act.0 = after.errors.act.0;
+    next.errors.his.0 = after.errors.his.0;
+    next.operating = operating;
+    next.kept = kept;
+    next
+}
+
+// One channel: off where the watchdog ran out, then steps 2 to 7.
+pub fn tick_one(b: Begun, ch: Channel) -> Channel
+    ensures { λ r. ⌜ r ≡ tickedBy b ch ⌝ }
+{
+    let s = b.shared;
+    put_back(tick_channel(s, b.ran_out, b.due, b.levels, ch), ch)
+}
+
+// From channel 1 to 16.
+fn tick_channels(b: Begun, channels: [Channel; 16]) -> [Channel; 16]
+    ensures { λ r. ⌜ r ≡ map (tickedBy b) channels ⌝ }
 {
     let mut next = channels;
-    let start = levels(next);
     for k in 0..16 {
         let ch = next[k];
-        let after = tick_channel(s, ran_out, due, start, ch);
+        let after = tick_one(b, ch);
         next[k] = after;
     }
     next
@@ -101,14 +177,13 @@ fn tick_channels(s: Shared, ran_out: bool, due: bool, channels: [Channel; 16]) -
 pub fn tick(m: Module) -> Module
     ensures { λ r. ⌜ r ≡ ticked m ⌝ }
 {
-    let before = m.shared;
-    let service = m.service;
+    let b = begin(m);
+    let shared = b.shared;
+    let service = b.service;
     let channels = m.channels;
-    let ran_out = runs_out(before, service.wd_timer);
-    let shared = tick_shared(before);
     Module {
         shared: shared,
-        service: tick_service(ran_out, service),
-        channels: tick_channels(shared, ran_out, save_due(before), channels),
+        service: service,
+        channels: tick_channels(b, channels),
     }
 }

@@ -2,6 +2,7 @@
 use borrow.Author.Needs.{needs}
 use Rattle.model.specs.Settings.{isSet, refA, refB, inA, inB}
 use Rattle.model.specs.Tick.{feedbackWrong}
+use Rattle.settings.specs.Levels.{levelsOf}
 use Rattle.review.proofs.Laws.{differs}
 use Rattle.review.proofs.feedback_wrong.Statement.{statement}
 use Rattle.review.proofs.feedback_wrong.Tie as tie
@@ -36,7 +37,7 @@ returns c =
       c .before .before .before .before .before .before .is-set .ensures,
       c .before .before .before .before .before .before .before .ref-a .ensures,
     )
-    (differs (isSet (refA (s .ch))) (isSet (refB (s .ch))) (inA (s .levels) (s .ch)) (inB (s .levels) (s .ch)) (s .ch .flags .«out_flag»))
+    (differs (isSet (refA (s .ch))) (isSet (refB (s .ch))) (inA (levelsOf (s .levels)) (s .ch)) (inB (levelsOf (s .levels)) (s .ch)) (s .ch .flags .«out_flag»))
 
 pub feedback-wrong-spec : {M : Type 1} → statement M
 feedback-wrong-spec =

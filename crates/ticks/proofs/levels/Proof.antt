@@ -1,25 +1,31 @@
 -- `levels` meets its contract. Assumes nothing.
-use mathlib.Core.Path.{_≡_, sym, _∙_}
-use mathlib.Core.Bool.{true, false}
-use Prim.Native.Nat.{ℕ, suc, _-_, _≤_, _<_}
-use native.Mathlib.Numerals.{add-one}
+use mathlib.Core.Path.{_≡_, refl}
+use mathlib.Core.List.{map}
+use Prim.Native.Nat.{suc, _-_, _≤_, _<_}
 use native.Mathlib.Omega.{arith}
-use lib.ListN.{length, replicate}
+use lib.ListN.{length, drop, drop-of-length-le, length-map}
 use borrow.Author.Needs.{needs}
-use borrow.Author.Tests.{lt-ltb, le-ltb}
 use Rattle.model.specs.State.{inFlag}
-use Rattle.model.proofs.Laws.Filled.{filled, none, one-more, all, below, up}
+use Rattle.model.specs.Errors.{wordOf}
+use Rattle.ticks.proofs.Laws.Words.{flag-step, flag-room, bit-room}
 use Rattle.ticks.proofs.levels.Statement.{statement}
 use Rattle.ticks.proofs.levels.Tie as tie
 
 abbrev Inv-loop : tie.InvT-loop
-Inv-loop channels r₀ k₀ r k = (k ≤ 16) × (r ≡ filled (below k) (λ (j : ℕ). inFlag) channels (replicate 16 false))
+Inv-loop channels r₀ k₀ r k = (k ≤ 16) × (r ≡ wordOf (drop k (map inFlag channels)))
 
 abbrev μ-loop : tie.MeasureT-loop
-μ-loop channels r₀ k₀ r k = 16 - k
+μ-loop channels r₀ k₀ r k = k
 
 loop-holds : tie.Need-loop-holds Inv-loop μ-loop
-loop-holds c = (search needs, sym (none (λ (j : ℕ). inFlag) (below 0) (c .args .t1) (replicate 16 false) (λ j l. le-ltb j 0 (omega arith))))
+loop-holds c =
+    let cs = c .args .t1 in
+    let n : length cs ≡ 16 = search needs in
+    let h : length (map inFlag cs) ≤ 16 = rw length-map (omega arith) in
+    (search needs, rw (drop-of-length-le (map inFlag cs) {i = 16} h))
+
+sub-k : tie.Need-sub-k Inv-loop μ-loop
+sub-k c = search needs
 
 mul-ch : tie.Need-mul-ch Inv-loop μ-loop
 mul-ch c = search needs
@@ -27,30 +33,42 @@ mul-ch c = search needs
 array-copy-out-ch : tie.Need-array-copy-out-ch Inv-loop μ-loop
 array-copy-out-ch c = search needs
 
-array-write-r : tie.Need-array-write-r Inv-loop μ-loop
-array-write-r c = search needs
+bit-requires : tie.Need-bit-requires Inv-loop μ-loop
+bit-requires c κs = search needs
 
-add-k : tie.Need-add-k Inv-loop μ-loop
-add-k c = search needs
+mul-r : tie.Need-mul-r Inv-loop μ-loop
+mul-r c =
+    let l = c .before .before .before .loop in
+    let cs = c .before .before .before .before .args .t1 in
+    let n : length cs ≡ 16 = search needs in
+    let h = flag-room inFlag (l .k) cs (l .r) n (omega arith) (l .inv .1) in
+    omega arith
+
+add-r : tie.Need-add-r Inv-loop μ-loop
+add-r c =
+    let l = c .before .before .before .loop in
+    let cs = c .before .before .before .before .args .t1 in
+    let n : length cs ≡ 16 = search needs in
+    let h = flag-room inFlag (l .k) cs (l .r) n (omega arith) (l .inv .1) in
+    let b : c .bit .result ≤ 1 = rw (c .bit .ensures) (search bit-room) in
+    omega arith
 
 loop-less : tie.Need-loop-less Inv-loop μ-loop
 loop-less c = search needs
 
 loop-again : tie.Need-loop-again Inv-loop μ-loop
 loop-again c =
-    let k = c .before .before .loop .k in
-    let xs = c .before .before .before .args .t1 in
-    let h : k < length xs = search needs in
-    let l : k < 16 = omega arith in
-    let t : below (suc k) k ≡ true = lt-ltb k (suc k) (omega arith) in
-    (omega arith, rw (c .before .before .loop .inv .1, add-one) (one-more (λ (j : ℕ). inFlag) (below k) (below (suc k)) k xs (replicate 16 false) _ h l t (up k)))
+    let l = c .before .before .before .loop in
+    let cs = c .before .before .before .before .args .t1 in
+    let h : l .k - 1 < length cs = search needs in
+    let e : suc (l .k - 1) ≡ l .k = omega arith in
+    (omega arith, rw (l .inv .1, c .bit .ensures) (rw e at (flag-step inFlag (l .k - 1) cs refl h)))
 
 returns : tie.Need-returns Inv-loop μ-loop
 returns c =
-    let e : c .before .loop .k ≡ 16 = omega arith in
-    let xs = c .before .before .args .t1 in
-    let n : length xs ≡ 16 = search needs in
-    c .before .loop .inv .1 ∙ rw e (all inFlag (below 16) xs (replicate 16 false) n (λ j l. lt-ltb j 16 (omega arith)))
+    let l = c .before .loop in
+    let e : l .k ≡ 0 = omega arith in
+    rw (l .inv .1, e)
 
 pub levels-spec : {M : Type 1} → statement M
 levels-spec =
@@ -59,10 +77,12 @@ levels-spec =
     Inv-loop
     μ-loop
     loop-holds
+    sub-k
     mul-ch
     array-copy-out-ch
-    array-write-r
-    add-k
+    bit-requires
+    mul-r
+    add-r
     loop-less
     loop-again
     returns)

@@ -1,41 +1,23 @@
 -- `tick` meets its contract. Assumes nothing.
+use mathlib.Core.Path.{_≡_}
+use lib.ListN.{length, length-map}
 use borrow.Author.Needs.{needs}
-use Rattle.model.specs.Tick.{ticked}
+use Rattle.ticks.proofs.Whole.{whole}
 use Rattle.ticks.proofs.tick.Statement.{statement}
 use Rattle.ticks.proofs.tick.Tie as tie
 
-runs-out-requires : tie.Need-runs-out-requires
-runs-out-requires c κs = search needs
-
-tick-shared-requires : tie.Need-tick-shared-requires
-tick-shared-requires c κs = search needs
-
-tick-service-requires : tie.Need-tick-service-requires
-tick-service-requires c κs = search needs
-
-save-due-requires : tie.Need-save-due-requires
-save-due-requires c κs = search needs
+begin-requires : tie.Need-begin-requires
+begin-requires c κs = search needs
 
 tick-channels-requires : tie.Need-tick-channels-requires
 tick-channels-requires c κs = search needs
 
 returns : tie.Need-returns
-unfolding ticked
-returns c = simp (
-  c .tick-channels .ensures,
-  c .before .save-due .ensures,
-  c .before .before .tick-service .ensures,
-  c .before .before .before .tick-shared .ensures,
-  c .before .before .before .before .runs-out .ensures,
-)
+returns c =
+    let start = c .before .before .before .before .before in
+    let m = start .args .m in
+    let n : length (m .channels) ≡ 16 = rw length-map at (start .good .0 .1 .1 .1 .1 .0 .1 .0 .1) in
+    simp (c .tick-channels .ensures, c .before .before .before .before .begin .ensures) (whole m n)
 
 pub tick-spec : {M : Type 1} → statement M
-tick-spec =
-    tie.close
-    (tie.spec
-    runs-out-requires
-    tick-shared-requires
-    tick-service-requires
-    save-due-requires
-    tick-channels-requires
-    returns)
+tick-spec = tie.close (tie.spec begin-requires tick-channels-requires returns)

@@ -1,7 +1,6 @@
 -- `tick_channels` meets its contract. Assumes nothing.
 use mathlib.Core.Path.{_≡_, refl, sym, _∙_}
 use mathlib.Core.Bool.{true}
-use mathlib.Core.List.{map}
 use Prim.Native.Nat.{ℕ, suc, _-_, _≤_, _<_}
 use native.Mathlib.Numerals.{add-one}
 use native.Mathlib.Omega.{arith}
@@ -9,28 +8,21 @@ use lib.ListN.{length}
 use borrow.Author.Needs.{needs}
 use borrow.Author.Tests.{lt-ltb, le-ltb}
 use Rattle.model.specs.declared.Channel.{Channel}
-use Rattle.model.specs.State.{inFlag}
-use Rattle.model.specs.Tick.{channelTicked}
 use Rattle.model.proofs.Laws.Filled.{filled, none, one-more, untouched, all, below, up}
+use Rattle.ticks.specs.Begun.{tickedBy}
 use Rattle.ticks.proofs.tick_channels.Statement.{statement}
 use Rattle.ticks.proofs.tick_channels.Tie as tie
 
 abbrev Inv-loop : tie.InvT-loop
-Inv-loop s ran-out due next₀ start k₀ next k = (k ≤ 16) × (next ≡ filled (below k) (λ (j : ℕ). channelTicked s ran-out due start) next₀ next₀)
+Inv-loop b next₀ k₀ next k = (k ≤ 16) × (next ≡ filled (below k) (λ (j : ℕ). tickedBy b) next₀ next₀)
 
 abbrev μ-loop : tie.MeasureT-loop
-μ-loop s ran-out due next₀ start k₀ next k = 16 - k
-
-levels-requires : tie.Need-levels-requires Inv-loop μ-loop
-levels-requires c κs = search needs
+μ-loop b next₀ k₀ next k = 16 - k
 
 loop-holds : tie.Need-loop-holds Inv-loop μ-loop
 loop-holds c =
-    let a = c .before .args in (
-      search needs,
-      sym (none (λ (j : ℕ). channelTicked (a .s) (a .ran-out) (a .due) (c .levels .result)) (below 0) (a .channels) (a .channels)
-          (λ j l. le-ltb j 0 (omega arith))),
-    )
+    let a = c .args in
+    (search needs, sym (none (λ (j : ℕ). tickedBy (a .b)) (below 0) (a .channels) (a .channels) (λ j l. le-ltb j 0 (omega arith))))
 
 mul-ch : tie.Need-mul-ch Inv-loop μ-loop
 mul-ch c = search needs
@@ -38,8 +30,8 @@ mul-ch c = search needs
 array-copy-out-ch : tie.Need-array-copy-out-ch Inv-loop μ-loop
 array-copy-out-ch c = search needs
 
-tick-channel-requires : tie.Need-tick-channel-requires Inv-loop μ-loop
-tick-channel-requires c κs = search needs
+tick-one-requires : tie.Need-tick-one-requires Inv-loop μ-loop
+tick-one-requires c κs = search needs
 
 mul-next : tie.Need-mul-next Inv-loop μ-loop
 mul-next c = search needs
@@ -55,26 +47,25 @@ loop-less c = search needs
 
 loop-again : tie.Need-loop-again Inv-loop μ-loop
 loop-again c =
-    let a = c .before .before .before .before .before .args in
+    let a = c .before .before .before .before .args in
     let k = c .before .before .before .loop .k in
     let xs = a .channels in
-    let g : ℕ → Channel → Channel = λ j. channelTicked (a .s) (a .ran-out) (a .due) (c .before .before .before .before .levels .result) in
-    let n : length xs ≡ 16 = search (needs, c .before .before .before .before .before .good .1 .1 .1 .0) in
+    let g : ℕ → Channel → Channel = λ j. tickedBy (a .b) in
+    let n : length xs ≡ 16 = search needs in
     let h : k < length xs = omega arith in
     let t : below (suc k) k ≡ true = lt-ltb k (suc k) (omega arith) in (
       omega arith,
-      rw (c .tick-channel .ensures, c .before .before .before .loop .inv .1, add-one, untouched g (below k) k xs xs _ (le-ltb k k (omega arith)))
+      rw (c .tick-one .ensures, c .before .before .before .loop .inv .1, add-one, untouched g (below k) k xs xs _ (le-ltb k k (omega arith)))
           (one-more g (below k) (below (suc k)) k xs xs _ h h t (up k)),
     )
 
 returns : tie.Need-returns Inv-loop μ-loop
 returns c =
-    let a = c .before .before .before .args in
+    let a = c .before .before .args in
     let xs = a .channels in
     let e : c .before .loop .k ≡ 16 = omega arith in
     let n : length xs ≡ 16 = search needs in
-    c .before .loop .inv .1 ∙ rw (e, c .before .before .levels .ensures)
-    (all (channelTicked (a .s) (a .ran-out) (a .due) (map inFlag xs)) (below 16) xs xs refl (λ j l. lt-ltb j 16 (omega arith)))
+    c .before .loop .inv .1 ∙ rw e (all (tickedBy (a .b)) (below 16) xs xs refl (λ j l. lt-ltb j 16 (omega arith)))
 
 pub tick-channels-spec : {M : Type 1} → statement M
 tick-channels-spec =
@@ -82,11 +73,10 @@ tick-channels-spec =
     (tie.spec
     Inv-loop
     μ-loop
-    levels-requires
     loop-holds
     mul-ch
     array-copy-out-ch
-    tick-channel-requires
+    tick-one-requires
     mul-next
     array-set-from-next
     add-k
