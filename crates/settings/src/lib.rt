@@ -1,7 +1,7 @@
 // What a channel's settings say: Functions, Enablebit, references, InA and InB, Output. ChConfig is
 // held as its bytes, and decoded here, where it acts.
 ghost use mathlib.Core.Path.{_≡_};
-ghost use Rattle.model.specs.Settings.{functionOf, notInput, isSpecial, referenceOf, isSet, functions, refA, refB, hasReference, simulatesInput};
+ghost use Rattle.model.specs.Settings.{bit, functionOf, notInput, isSpecial, referenceOf, isSet, functions, refA, refB, hasReference, simulatesInput};
 ghost use Rattle.model.specs.Settings.{simulatesFeedback, enablesUnderload, silencesOverload, levelOf, inA, inB, output};
 ghost use Rattle.settings.specs.Levels.{levelsOf};
 use model::Channel;
@@ -112,6 +112,16 @@ pub fn silences_overload(ch: Channel) -> bool
     ch.config.enablebit / 64 % 2 == 1
 }
 
+// Bit k of a word; a u16 has none above 15.
+pub fn bit_of(word: u16, k: usize) -> bool
+    ensures { λ r. ⌜ r ≡ bit k word ⌝ }
+{
+    if 15 < k {
+        return false;
+    }
+    (word >> k) % 2 == 1
+}
+
 // InFlag of a reference. Bit k-1 of levels is InFlag of channel k.
 pub fn level_of(levels: u16, r: Reference) -> bool
     ensures { λ b. ⌜ b ≡ levelOf (levelsOf levels) r ⌝ }
@@ -126,7 +136,7 @@ pub fn level_of(levels: u16, r: Reference) -> bool
             if 16 < n {
                 return false;
             }
-            (levels >> (n - 1)) % 2 == 1
+            bit_of(levels, n - 1)
         }
     }
 }

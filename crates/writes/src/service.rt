@@ -2,16 +2,15 @@
 // learn, to the service channel's errors, and to every channel.
 ghost use mathlib.Core.Path.{_≡_};
 ghost use mathlib.Core.Bool.{true};
-ghost use mathlib.Core.List.{map};
 ghost use lib.ListN.{length};
 ghost use Rattle.model.specs.Registers.{serviceRow};
-ghost use Rattle.model.specs.Writes.{setModuleConfig, setWDPreset, setWriteEnable, serviceAllowed, sharedWritten, errorsWritten, everyWritten, serviceWritten};
+ghost use Rattle.model.specs.Writes.{setModuleConfig, setWDPreset, setWriteEnable, serviceAllowed, sharedWritten, errorsWritten, everyWritten};
+ghost use Rattle.writes.specs.Begun.{serviceCount};
 use crate::reset;
 use crate::values;
 use counts::TimerCount;
 use model::Channel;
 use model::Config;
-use model::Module;
 use model::Service;
 use model::ServiceRegister;
 use model::Shared;
@@ -40,7 +39,7 @@ fn set_write_enable(b: bool, s: Shared) -> Shared
     next
 }
 
-fn write_shared(r: ServiceRegister, b: &[u8], s: Shared) -> Shared
+pub(crate) fn write_shared(r: ServiceRegister, b: &[u8], s: Shared) -> Shared
     requires { ⌜ (length (now b) ≡ serviceRow r .size) × (serviceAllowed r (now b) ≡ true) ⌝ }
     ensures { λ next. ⌜ next ≡ sharedWritten r (now (b .entry)) s ⌝ }
 {
@@ -56,7 +55,7 @@ fn write_shared(r: ServiceRegister, b: &[u8], s: Shared) -> Shared
     }
 }
 
-fn write_errors(r: ServiceRegister, v: Service) -> Service
+pub(crate) fn write_errors(r: ServiceRegister, v: Service) -> Service
     ensures { λ next. ⌜ next ≡ errorsWritten r v ⌝ }
 {
     match r {
@@ -71,7 +70,7 @@ fn write_errors(r: ServiceRegister, v: Service) -> Service
     }
 }
 
-fn write_every(r: ServiceRegister, ch: Channel) -> Channel
+pub(crate) fn write_every(r: ServiceRegister, ch: Channel) -> Channel
     ensures { λ next. ⌜ next ≡ everyWritten r ch ⌝ }
 {
     match r {
@@ -86,28 +85,18 @@ fn write_every(r: ServiceRegister, ch: Channel) -> Channel
     }
 }
 
-fn write_channels(r: ServiceRegister, channels: [Channel; 16]) -> [Channel; 16]
-    ensures { λ next. ⌜ next ≡ map (everyWritten r) channels ⌝ }
+// How many channels, from the first, write_every is to be asked for.
+pub(crate) fn count_of(r: ServiceRegister) -> usize
+    ensures { λ n. ⌜ n ≡ serviceCount r ⌝ }
 {
-    let mut next = channels;
-    for k in 0..16 {
-        let ch = next[k];
-        let after = write_every(r, ch);
-        next[k] = after;
-    }
-    next
-}
-
-pub(crate) fn write_service(r: ServiceRegister, b: &[u8], m: Module) -> Module
-    requires { ⌜ (length (now b) ≡ serviceRow r .size) × (serviceAllowed r (now b) ≡ true) ⌝ }
-    ensures { λ next. ⌜ next ≡ serviceWritten r (now (b .entry)) m ⌝ }
-{
-    let shared = m.shared;
-    let service = m.service;
-    let channels = m.channels;
-    Module {
-        shared: write_shared(r, b, shared),
-        service: write_errors(r, service),
-        channels: write_channels(r, channels),
+    match r {
+        ServiceRegister::Highest => 0,
+        ServiceRegister::Reset => 16,
+        ServiceRegister::FreeRunTimer => 0,
+        ServiceRegister::WDTimer => 0,
+        ServiceRegister::ModuleConfig => 0,
+        ServiceRegister::WDPreset => 0,
+        ServiceRegister::WriteEnable => 0,
+        ServiceRegister::CommonError => 16,
     }
 }

@@ -1,8 +1,9 @@
--- A word of levels and the levels: each bit is one of them, and the word of sixteen levels shows these again. Assumes nothing.
+-- A word of levels and the levels: each bit is one of them, none stands above the sixteenth, and the word of sixteen levels shows these again. Assumes nothing.
 use mathlib.Core.Path.{_≡_, refl, ap, sym, _∙_}
 use mathlib.Core.Bool.{Bool, true, false}
 use mathlib.Core.List.{List, [], _∷_}
-use Prim.Native.Nat.{ℕ, zero, suc, _+_, _*_, _/_, _%_, _<_, _^_}
+use Prim.Native.Nat.{ℕ, zero, suc, _+_, _*_, _/_, _%_, _≤_, _<_, _^_}
+use native.Mathlib.Nat.{div-eq-of-lt, pow-le-pow-right, zero-lt-suc}
 use native.Mathlib.Omega.{arith}
 use lib.Dec.{eqb}
 use lib.ListN.{length, getD}
@@ -38,3 +39,10 @@ lowest-at (suc k) (suc n) w l =
 pub level-at : (k w : ℕ) → k < 16 → getD (levelsOf w) k false ≡ bit k w
 unfolding levelsOf
 level-at k w l = lowest-at k 16 w l
+
+-- a word of sixteen bits has none above them
+pub none-above : (k w : ℕ) → w < 65536 → 15 < k → false ≡ bit k w
+none-above k w h l =
+    let p : 2 ^ 16 ≤ 2 ^ k = pow-le-pow-right (zero-lt-suc 1) {i = 16} (omega (arith, l)) in
+    let e : w / 2 ^ k ≡ 0 = div-eq-of-lt (omega (arith, p, h)) in
+    rw e

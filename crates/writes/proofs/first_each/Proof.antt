@@ -1,5 +1,5 @@
--- `service::write_channels` meets its contract. Assumes nothing.
-use mathlib.Core.Path.{_≡_, refl, sym, _∙_}
+-- `first_each` meets its contract. Assumes nothing.
+use mathlib.Core.Path.{_≡_, sym, _∙_}
 use mathlib.Core.Bool.{true}
 use Prim.Native.Nat.{ℕ, suc, _-_, _≤_, _<_}
 use native.Mathlib.Numerals.{add-one}
@@ -8,21 +8,23 @@ use lib.ListN.{length}
 use borrow.Author.Needs.{needs}
 use borrow.Author.Tests.{lt-ltb, le-ltb}
 use Rattle.model.specs.declared.Channel.{Channel}
-use Rattle.model.specs.Writes.{everyWritten}
-use Rattle.model.proofs.Laws.Filled.{filled, none, one-more, untouched, all, below, up}
-use Rattle.writes.proofs.service.write_channels.Statement.{statement}
-use Rattle.writes.proofs.service.write_channels.Tie as tie
+use Rattle.model.proofs.Laws.Filled.{filled, none, one-more, untouched, below, up}
+use Rattle.registers.specs.Places.{placed}
+use Rattle.writes.specs.Begun.{eachWritten}
+use Rattle.writes.proofs.Laws.Begun.{first-done}
+use Rattle.writes.proofs.first_each.Statement.{statement}
+use Rattle.writes.proofs.first_each.Tie as tie
 
 abbrev Inv-loop : tie.InvT-loop
-Inv-loop r next₀ k₀ next k = (k ≤ 16) × (next ≡ filled (below k) (λ (j : ℕ). everyWritten r) next₀ next₀)
+Inv-loop p word count next₀ k₀ next k = (k ≤ count) × (next ≡ filled (below k) (eachWritten (placed p) word) next₀ next₀)
 
 abbrev μ-loop : tie.MeasureT-loop
-μ-loop r next₀ k₀ next k = 16 - k
+μ-loop p word count next₀ k₀ next k = count - k
 
 loop-holds : tie.Need-loop-holds Inv-loop μ-loop
 loop-holds c =
     let a = c .args in
-    (search needs, sym (none (λ (j : ℕ). everyWritten (a .r)) (below 0) (a .channels) (a .channels) (λ j l. le-ltb j 0 (omega arith))))
+    (search needs, sym (none (eachWritten (placed (a .p)) (a .word)) (below 0) (a .channels) (a .channels) (λ j l. le-ltb j 0 (omega arith))))
 
 mul-ch : tie.Need-mul-ch Inv-loop μ-loop
 mul-ch c = search needs
@@ -30,8 +32,8 @@ mul-ch c = search needs
 array-copy-out-ch : tie.Need-array-copy-out-ch Inv-loop μ-loop
 array-copy-out-ch c = search needs
 
-write-every-requires : tie.Need-write-every-requires Inv-loop μ-loop
-write-every-requires c κs = search needs
+each-requires : tie.Need-each-requires Inv-loop μ-loop
+each-requires c κs = search needs
 
 mul-next : tie.Need-mul-next Inv-loop μ-loop
 mul-next c = search needs
@@ -48,27 +50,26 @@ loop-less c = search needs
 loop-again : tie.Need-loop-again Inv-loop μ-loop
 loop-again c =
     let s = c .before .before .before .before in
-    let k = c .before .before .before .loop .k in
+    let l = c .before .before .before .loop in
+    let k = l .k in
     let xs = s .args .channels in
-    let g : ℕ → Channel → Channel = λ j. everyWritten (s .args .r) in
+    let g : ℕ → Channel → Channel = eachWritten (placed (s .args .p)) (s .args .word) in
     let n : length xs ≡ 16 = search (needs, s .good .1 .0) in
     let h : k < length xs = omega arith in
     let t : below (suc k) k ≡ true = lt-ltb k (suc k) (omega arith) in (
       omega arith,
-      rw (c .write-every .ensures, c .before .before .before .loop .inv .1, add-one, untouched g (below k) k xs xs _ (le-ltb k k (omega arith)))
+      rw (c .each .ensures, l .inv .1, add-one, untouched g (below k) k xs xs _ (le-ltb k k (omega arith)))
           (one-more g (below k) (below (suc k)) k xs xs _ h h t (up k)),
     )
 
 returns : tie.Need-returns Inv-loop μ-loop
 returns c =
-    let s = c .before .before in
-    let xs = s .args .channels in
-    let e : c .before .loop .k ≡ 16 = omega arith in
-    let n : length xs ≡ 16 = search (needs, s .good .1 .0) in
-    c .before .loop .inv .1 ∙ rw e (all (everyWritten (s .args .r)) (below 16) xs xs refl (λ j l. lt-ltb j 16 (omega arith)))
+    let a = c .before .before .args in
+    let e : c .before .loop .k ≡ a .count = omega arith in
+    c .before .loop .inv .1 ∙ rw e (first-done (eachWritten (placed (a .p)) (a .word)) (a .count) (a .channels))
 
-pub write-channels-spec : {M : Type 1} → statement M
-write-channels-spec =
+pub first-each-spec : {M : Type 1} → statement M
+first-each-spec =
     tie.close
     (tie.spec
     Inv-loop
@@ -76,7 +77,7 @@ write-channels-spec =
     loop-holds
     mul-ch
     array-copy-out-ch
-    write-every-requires
+    each-requires
     mul-next
     array-set-from-next
     add-k
