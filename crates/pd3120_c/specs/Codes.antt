@@ -2,22 +2,29 @@
 use mathlib.Core.Path.{_≡_}
 use mathlib.Core.Bool.{Bool, cond}
 use mathlib.Core.List.{List}
-use Prim.Native.Nat.{ℕ, _+_, _*_, _/_, _%_, _<_}
+use Prim.Native.Nat.{ℕ, _+_, _*_, _/_, _%_, _<_, _≤_}
 use lib.ListN.{take, getD, set}
 use Rattle.model.specs.declared.Channel.{Channel}
 use Rattle.model.specs.declared.Module.{Module}
 use Rattle.model.specs.declared.Reply.{Reply}
+use Rattle.model.specs.declared.Service.{Service}
 use Rattle.model.specs.declared.Shared.{Shared}
 use Rattle.model.specs.State.{nothing, withChannels}
+use Rattle.model.specs.Errors.{dataError, generalError}
 use Rattle.model.specs.Questions.{numberOf, lengthOf}
-use Rattle.model.specs.Calls.{Request, read, tick, Answer, Stepped, step, powerUp, powerUpAnswer, storeAnswer}
+use Rattle.model.specs.Calls.{Request, read, write, tick, Answer, Stepped, step, powerUp, powerUpAnswer, storeAnswer}
 use Rattle.model.specs.Image.{setupOf, encode, imageSize}
 use Rattle.model.specs.Images.{Reached, PowersUpTo}
 use Rattle.model.specs.TwoLists.{LearnsNothing}
+use Rattle.errors.specs.declared.words.Words.{Words}
+use Rattle.errors.specs.Words.{wordsOf}
+use Rattle.registers.specs.Places.{placed, slotOf}
 use Rattle.reads.specs.Reading.{putBack}
+use Rattle.writes.specs.Begun.{eachWritten, firstEach}
+use Rattle.pd3120.specs.Parts.{Has}
 use Rattle.pd3120_c.specs.declared.ChannelDone.{ChannelDone}
-use Rattle.pd3120_c.specs.declared.Done.{Done}
 use Rattle.pd3120_c.specs.declared.ReadDone.{ReadDone}
+use Rattle.pd3120_c.specs.declared.WriteBegun.{WriteBegun}
 
 -- ---- codes: bits 0 to 7 the number, bits 8 to 23 the length, bit 24 DataError, bit 25 GeneralError
 abbrev pub packed : ℕ → ℕ → Bool → Bool → ℕ
@@ -59,16 +66,31 @@ pub record Stored (m : Module) (lent : List ℕ) (code : ℕ) (lent′ : List �
   pub buffer-is : lent′ ≡ storeAnswer m lent .buffer
   pub powers-up : Reached m → storeAnswer m lent .number ≡ 0 → PowersUpTo m (take imageSize lent′)
 
--- ---- what the calls beneath give
--- the module that a write leaves, and the code of its answer
-abbrev pub doneBy : Stepped → Done
-doneBy s = record { after = s .box; code = answerCode (s .answer) }
-
--- a sample's channel put back at place i of every module that has it there
+-- ---- what the calls beneath give, for every module that has the parts that they are given
+-- a sample's channel put back at place i
 abbrev pub SampleLeft : Request → Shared → Channel → ℕ → ChannelDone → Type 0
 SampleLeft x s ch i d = (m : Module) → m .shared ≡ s → getD (m .channels) i nothing ≡ ch → Left (step m x) (withChannels (set (m .channels) i (d .after)) m)
     (d .code)
 
 -- the two parts of the module that a read may change, put back
-abbrev pub ReadLeft : Module → ℕ → List ℕ → ReadDone → List ℕ → Type 0
-ReadLeft m n lent d lent′ = (d .at < 16) × LeftLent (step m (read n lent)) (putBack (d .service) (d .at) (d .channel) m) (d .code) lent′
+abbrev pub ReadLeft : Shared → Service → Channel → Words → ℕ → List ℕ → ReadDone → List ℕ → Type 0
+ReadLeft s v ch w n lent d lent′ =
+    (m : Module) → Has s v ch (slotOf (n / 16)) m → w ≡ wordsOf (m .channels)
+    → LeftLent (step m (read n lent)) (putBack (d .service) (slotOf (n / 16)) (d .channel) m) (d .code) lent′
+
+-- what a write does to the channel at place k when it comes to it
+abbrev pub eachLeft : WriteBegun → ℕ → Channel → Channel
+eachLeft b k ch = eachWritten (placed (b .place)) (b .word) k ch
+
+-- the parts of a write put back, and the first channels made anew; of its answer the number, since its length is 0 and its bits are the module's
+abbrev pub writeLeft : WriteBegun → ℕ → Module → Module
+writeLeft b i m =
+    record { shared = b .shared; service = b .service; channels = firstEach (eachLeft b) (b .count) (set (m .channels) i (b .channel)) }
+
+abbrev pub WriteLeft : Shared → Service → Channel → ℕ → List ℕ → WriteBegun → Type 0
+WriteLeft s v ch n bs b =
+    (b .count ≤ 16)
+    × ((m : Module) → Has s v ch (slotOf (n / 16)) m →
+    (writeLeft b (slotOf (n / 16)) m ≡ step m (write n bs) .box)
+    × (packed (b .number) 0 (dataError (writeLeft b (slotOf (n / 16)) m)) (generalError (writeLeft b (slotOf (n / 16)) m))
+    ≡ answerCode (step m (write n bs) .answer)))

@@ -1,16 +1,23 @@
 // The calls of the library with their answers packed: what each exported function does with a copy
-// of the caller's module, or with a copy of the parts that it needs.
+// of the caller's module, or of the parts that it needs.
 ghost use mathlib.Core.Path.{_≡_};
-ghost use Rattle.model.specs.Calls.{write, level, current, step};
-ghost use Rattle.pd3120.specs.Answers.{sampleSlot};
-ghost use Rattle.pd3120_c.specs.Codes.{doneBy, SampleLeft, ReadLeft, PoweredUp, Stored};
+ghost use Rattle.model.specs.Errors.{dataError, generalError};
+ghost use Rattle.model.specs.Calls.{level, current};
+ghost use Rattle.errors.specs.Words.{wordsOf};
+ghost use Rattle.registers.specs.Places.{slotOf};
+ghost use Rattle.pd3120_c.specs.Codes.{packed, SampleLeft, ReadLeft, WriteLeft, eachLeft, PoweredUp, Stored};
 use crate::ChannelDone;
 use crate::Done;
 use crate::ReadDone;
+use crate::WriteBegun;
 use crate::codes;
+use errors::words;
+use errors::words::Words;
 use model::Channel;
 use model::Module;
+use model::Service;
 use model::Shared;
+use pd3120::replies;
 use pd3120::samples;
 
 pub fn power_up(img: &[u8]) -> Done
@@ -32,35 +39,75 @@ pub fn store(m: Module, buf: &mut [u8]) -> u32
     codes::pack(reply, false, false)
 }
 
-pub fn read(m: Module, swno: u16, buf: &mut [u8]) -> ReadDone
-    ensures { λ r. ⌜ ReadLeft m swno (now (buf .entry)) r (now (buf .exit)) ⌝ }
+// What registers show of all channels.
+pub fn look(m: Module) -> Words
+    ensures { λ r. ⌜ r ≡ wordsOf (m .channels) ⌝ }
 {
-    let done = pd3120::read_changes(m, swno, buf);
+    let channels = m.channels;
+    words::of_channels(channels)
+}
+
+pub fn read(
+    s: Shared,
+    v: Service,
+    ch: Channel,
+    w: Words,
+    swno: u16,
+    buf: &mut [u8],
+) -> ReadDone
+    ensures { λ r. ⌜ ReadLeft s v ch w swno (now (buf .entry)) r (now (buf .exit)) ⌝ }
+{
+    let done = pd3120::read_changes(s, v, ch, w, swno, buf);
     let service = done.service;
     let channel = done.channel;
     let reply = done.reply;
     ReadDone {
         service: service,
         channel: channel,
-        at: done.at,
         code: codes::pack(reply, done.data_error, done.general_error),
     }
 }
 
-pub fn write(m: Module, swno: u16, bytes: &[u8]) -> Done
-    ensures { λ r. ⌜ r ≡ doneBy (step m (write swno (now (bytes .entry)))) ⌝ }
+pub fn begin_write(s: Shared, v: Service, ch: Channel, swno: u16, bytes: &[u8]) -> WriteBegun
+    ensures { λ r. ⌜ WriteLeft s v ch swno (now (bytes .entry)) r ⌝ }
 {
-    let written = pd3120::write(m, swno, bytes);
-    let after = written.after;
-    let reply = written.reply;
-    Done {
-        after: after,
-        code: codes::pack(reply, written.data_error, written.general_error),
+    let begun = pd3120::begin_write(s, v, ch, swno, bytes);
+    let shared = begun.shared;
+    let service = begun.service;
+    let channel = begun.channel;
+    let reply = begun.reply;
+    let place = begun.place;
+    WriteBegun {
+        shared: shared,
+        service: service,
+        channel: channel,
+        count: begun.count,
+        number: replies::number(reply),
+        place: place,
+        word: begun.word,
     }
 }
 
+pub fn write_each(b: WriteBegun, k: usize, ch: Channel) -> Channel
+    ensures { λ r. ⌜ r ≡ eachLeft b k ch ⌝ }
+{
+    let place = b.place;
+    writes::each(place, b.word, k, ch)
+}
+
+// The code of a write's answer: its length is 0, and its two bits are those of the module that it
+// leaves.
+pub fn finish_write(m: Module, number: u8) -> u32
+    ensures { λ r. ⌜ r ≡ packed number 0 (dataError m) (generalError m) ⌝ }
+{
+    let bits = pd3120::error_bits(m);
+    (number as u32)
+        + codes::weigh(bits.data_error, 16777216)
+        + codes::weigh(bits.general_error, 33554432)
+}
+
 pub fn level(s: Shared, ch: Channel, channel: u8, on: bool) -> ChannelDone
-    ensures { λ r. ⌜ SampleLeft (level channel on) s ch (sampleSlot channel) r ⌝ }
+    ensures { λ r. ⌜ SampleLeft (level channel on) s ch (slotOf channel) r ⌝ }
 {
     let taken = samples::take_level(s, ch, channel, on);
     let after = taken.after;
@@ -72,7 +119,7 @@ pub fn level(s: Shared, ch: Channel, channel: u8, on: bool) -> ChannelDone
 }
 
 pub fn current(s: Shared, ch: Channel, channel: u8, amperes: f32) -> ChannelDone
-    ensures { λ r. ⌜ SampleLeft (current channel amperes) s ch (sampleSlot channel) r ⌝ }
+    ensures { λ r. ⌜ SampleLeft (current channel amperes) s ch (slotOf channel) r ⌝ }
 {
     let taken = samples::take_current(s, ch, channel, amperes);
     let after = taken.after;

@@ -9,7 +9,7 @@ ghost use Rattle.pd3120_c.specs.Codes.{replyCode};
 use model::Reply;
 use pd3120::replies;
 
-fn weigh(set: bool, weight: u32) -> u32
+pub(crate) fn weigh(set: bool, weight: u32) -> u32
     ensures { λ r. ⌜ (r ≡ cond set weight 0) × (r ≤ weight) ⌝ }
 {
     if set { weight } else { 0 }

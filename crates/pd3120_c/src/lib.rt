@@ -12,7 +12,9 @@ mod codes;
 use model::Channel;
 use model::Module;
 use model::Service;
+use model::Shared;
 use pd3120::samples;
+use registers::Place;
 
 // The module that a call leaves, and the code of its answer.
 pub struct Done {
@@ -30,8 +32,19 @@ pub struct ChannelDone {
 pub struct ReadDone {
     pub service: Service,
     pub channel: Channel,
-    pub at: usize,
     pub code: u32,
+}
+
+// The parts of the module that a write changes first, how many channels it then comes to, the number
+// of its answer, and what it does to each of these channels.
+pub struct WriteBegun {
+    pub shared: Shared,
+    pub service: Service,
+    pub channel: Channel,
+    pub count: usize,
+    pub number: u8,
+    pub place: Place,
+    pub word: u16,
 }
 
 // A refused image gives the box of all-zero settings.
@@ -56,9 +69,11 @@ pub extern "C" fn pd3120_store(m: &Module, buf: &mut [u8]) -> u32
 pub extern "C" fn pd3120_read(m: &mut Module, swno: u16, buf: &mut [u8]) -> u32
     ensures { λ r. ⌜ LeftLent (step (now (m .entry)) (read swno (now (buf .entry)))) (now (m .exit)) r (now (buf .exit)) ⌝ }
 {
-    let done = calls::read(*m, swno, buf);
+    let at = registers::wire_slot(swno);
+    let seen = calls::look(*m);
+    let done = calls::read(m.shared, m.service, m.channels[at], seen, swno, buf);
     m.service = done.service;
-    m.channels[done.at] = done.channel;
+    m.channels[at] = done.channel;
     done.code
 }
 
@@ -66,9 +81,17 @@ pub extern "C" fn pd3120_read(m: &mut Module, swno: u16, buf: &mut [u8]) -> u32
 pub extern "C" fn pd3120_write(m: &mut Module, swno: u16, bytes: &[u8]) -> u32
     ensures { λ r. ⌜ Left (step (now (m .entry)) (write swno (now (bytes .entry)))) (now (m .exit)) r ⌝ }
 {
-    let done = calls::write(*m, swno, bytes);
-    *m = done.after;
-    done.code
+    let at = registers::wire_slot(swno);
+    let begun = calls::begin_write(m.shared, m.service, m.channels[at], swno, bytes);
+    m.shared = begun.shared;
+    m.service = begun.service;
+    m.channels[at] = begun.channel;
+    let mut k = 0;
+    while k < begun.count {
+        m.channels[k] = calls::write_each(begun, k, m.channels[k]);
+        k += 1;
+    }
+    calls::finish_write(*m, begun.number)
 }
 
 #[no_mangle]
@@ -95,7 +118,14 @@ pub extern "C" fn pd3120_current(m: &mut Module, channel: u8, amperes: f32) -> u
 pub extern "C" fn pd3120_tick(m: &mut Module)
     ensures { λ _. ⌜ Ticked (now (m .entry)) (now (m .exit)) ⌝ }
 {
-    *m = pd3120::tick(*m);
+    let begun = ticks::begin(*m);
+    m.shared = begun.shared;
+    m.service = begun.service;
+    let mut k = 0;
+    while k < 16 {
+        m.channels[k] = ticks::tick_one(begun, m.channels[k]);
+        k += 1;
+    }
 }
 
 // Off for a number outside 1 to 16.
