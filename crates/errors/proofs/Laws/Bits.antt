@@ -47,7 +47,7 @@ byte-room k w bits h =
     lt-of-lt-of-le (byte-below (take k bits)) (pow-mono l)
 
 -- ---- the lowest bit first
-pub word-step : (k : ℕ) (bits : List Bool) → k < length bits → wordOf (drop (suc k) bits) * 2 + bitValue (getD bits k false) ≡ wordOf (drop k bits)
+word-step : (k : ℕ) (bits : List Bool) → k < length bits → wordOf (drop (suc k) bits) * 2 + bitValue (getD bits k false) ≡ wordOf (drop k bits)
 word-step k bits h = rw (drop-cons bits k false) (omega arith)
 
 -- a bit more, at the high end
@@ -62,7 +62,7 @@ word-below [] = omega arith
 word-below (true ∷ xs) = let h = word-below xs in rw pow-suc (omega arith)
 word-below (false ∷ xs) = let h = word-below xs in rw pow-suc (omega arith)
 
-pub word-room : (k w : ℕ) (bits : List Bool) → length bits ≤ k + w → wordOf (drop k bits) < 2 ^ w
+word-room : (k w : ℕ) (bits : List Bool) → length bits ≤ k + w → wordOf (drop k bits) < 2 ^ w
 word-room k w bits h =
     let l : length (drop k bits) ≤ w = simp length-drop (omega arith) in
     lt-of-lt-of-le (word-below (drop k bits)) (pow-mono l)
