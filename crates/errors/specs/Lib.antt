@@ -1,3 +1,2 @@
 -- What registers show of every channel at once: its flags, and whether it has errors.
-pub mod Flags
 pub mod Words

@@ -1,6 +1,7 @@
 // Bits to numbers.
 ghost use mathlib.Core.Path.{_≡_};
-ghost use Rattle.model.specs.Errors.{bitValue, byteOf, wordOf};
+ghost use Prim.Native.Nat.{_+_, _*_, _<_};
+ghost use Rattle.model.specs.Errors.{bitValue, byteOf};
 
 pub fn bit(b: bool) -> u8
     ensures { λ r. ⌜ r ≡ bitValue b ⌝ }
@@ -20,16 +21,11 @@ pub fn byte_of(bits: [bool; 8]) -> u8
     n
 }
 
-// The first bit is the lowest.
-pub fn word_of(bits: [bool; 16]) -> u16
-    ensures { λ r. ⌜ r ≡ wordOf bits ⌝ }
+// One bit more, at the low end of a word.
+pub fn more(word: u16, b: bool) -> u16
+    requires { ⌜ word < 32768 ⌝ }
+    ensures { λ r. ⌜ r ≡ word * 2 + bitValue b ⌝ }
 {
-    let mut n: u16 = 0;
-    let mut k = 16;
-    while 0 < k {
-        k -= 1;
-        let b = bit(bits[k]);
-        n = n * 2 + (b as u16);
-    }
-    n
+    let low = bit(b);
+    word * 2 + (low as u16)
 }

@@ -1,16 +1,8 @@
 -- What reading leaves of the service channel's own record and of the place's channel. Definitions only.
-use Prim.Native.Nat.{ℕ, _-_}
 use Rattle.model.specs.declared.Channel.{Channel}
 use Rattle.model.specs.declared.Service.{Service}
 use Rattle.model.specs.Registers.{Place, service, digital, common, unlisted}
 use Rattle.model.specs.Reads.{serviceRead, digitalRead}
-
--- the place's channel, counted from 0. A register of no digital channel has that of channel 1, and leaves it
-abbrev pub slotOf : Place → ℕ
-slotOf (service r) = 0
-slotOf (digital k r) = k - 1
-slotOf (common r) = 0
-slotOf unlisted = 0
 
 abbrev pub serviceLeft : Place → Service → Service
 serviceLeft (service r) v = serviceRead r v

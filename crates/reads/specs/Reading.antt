@@ -1,18 +1,23 @@
 -- What a read answers and leaves. Definitions only.
+use mathlib.Core.Path.{_≡_}
 use mathlib.Core.List.{List}
-use Prim.Native.Nat.{ℕ}
-use lib.ListN.{getD, set}
+use Prim.Native.Nat.{ℕ, _/_}
+use lib.ListN.{length, getD, set}
 use Rattle.model.specs.declared.Channel.{Channel}
 use Rattle.model.specs.declared.Service.{Service}
 use Rattle.model.specs.declared.Shared.{Shared}
 use Rattle.model.specs.declared.Module.{Module}
 use Rattle.model.specs.State.{nothing}
-use Rattle.model.specs.Registers.{place}
+use Rattle.model.specs.Registers.{Place, place}
+use Rattle.model.specs.Reads.{bytesRead}
 use Rattle.model.specs.Calls.{readLeaves, readFills}
 use Rattle.model.specs.Questions.{readReply}
+use Rattle.errors.specs.declared.words.Words.{Words}
 use Rattle.errors.specs.Words.{wordsOf}
+use Rattle.registers.specs.Places.{slotOf, OfChannel}
 use Rattle.reads.specs.declared.Reading.{Reading}
-use Rattle.reads.specs.Left.{slotOf}
+use Rattle.reads.specs.declared.buffer.RegisterBytes.{RegisterBytes}
+use Rattle.reads.specs.Held.{held}
 
 abbrev pub boxOf : Shared → Service → List Channel → Module
 boxOf s v cs = record { shared = s; service = v; channels = cs }
@@ -21,13 +26,21 @@ boxOf s v cs = record { shared = s; service = v; channels = cs }
 abbrev pub putBack : Service → ℕ → Channel → Module → Module
 putBack v i ch m = record { shared = m .shared; service = v; channels = set (m .channels) i ch }
 
--- of the box that it leaves, the service record and the place's channel; `putBack` of them is that box (proofs/Back.antt)
+-- of the box that it leaves, the service record and the SWNo's channel; `putBack` of them is that box (proofs/Back.antt)
 unfoldable pub readingOf : Module → ℕ → List ℕ → Reading
 readingOf m n lent =
     let r = readReply n (place n) lent in
     let after = readLeaves r (place n) m in
-    let i = slotOf (place n) in
-    record { reply = r; service = after .service; at = i; channel = getD (after .channels) i nothing; words = wordsOf (m .channels) }
+    record { reply = r; service = after .service; channel = getD (after .channels) (slotOf (n / 16)) nothing }
 
 unfoldable pub bufferOf : Module → ℕ → List ℕ → List ℕ
 bufferOf m n lent = readFills (readReply n (place n) lent) (place n) m lent
+
+-- ---- what is made of parts of the box
+-- r, made of the words w and the channel ch, is f of the channels: of any sixteen that show w and have ch at place i, counted from 0
+abbrev pub OfParts : {A : Type 0} → (List Channel → A) → ℕ → Words → Channel → A → Type 0
+OfParts f i w ch r = (cs : List Channel) → length cs ≡ 16 → w ≡ wordsOf cs → getD cs i nothing ≡ ch → r ≡ f cs
+
+-- b is what place p shows of a box with these parts, where ch is the channel that p is of
+abbrev pub PlaceBytes : Place → Shared → Service → Words → Channel → RegisterBytes → Type 0
+PlaceBytes p s v w ch b = (i : ℕ) → OfChannel i p → OfParts (λ cs. held (bytesRead p (boxOf s v cs))) i w ch b

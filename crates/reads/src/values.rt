@@ -1,23 +1,19 @@
 // Each kind of value that a register shows, as its bytes.
 ghost use mathlib.Core.Path.{_≡_};
 ghost use mathlib.Core.List.{[], _∷_};
-ghost use Rattle.integers.specs.Bytes.{signedBytes};
+ghost use Rattle.integers.specs.Bytes.{bytesOf, signedBytes};
 ghost use Rattle.numbers.specs.Reals.{realBytes, realOf};
 ghost use lib.IntN.{pos};
 ghost use Rattle.counts.specs.Counts.{operatingUnits};
 ghost use Rattle.model.specs.Errors.{bitValue};
-ghost use Rattle.model.specs.Reads.{timerBytes, configBytes, channelWord};
-ghost use Rattle.errors.specs.Flags.{flagOf};
+ghost use Rattle.model.specs.Reads.{timerBytes, configBytes};
 ghost use Rattle.reads.specs.Held.{held};
 use crate::buffer;
 use crate::buffer::RegisterBytes;
 use counts::OperatingCount;
 use counts::TimerCount;
 use errors::bits;
-use errors::flags;
-use errors::flags::Flag;
 use integers::bytes;
-use model::Channel;
 use model::Config;
 use numbers::reals;
 use numbers::times;
@@ -98,8 +94,8 @@ pub(crate) fn config(g: Config) -> RegisterBytes
     four([g.enablebit, g.functions, g.ref_a, g.ref_b])
 }
 
-pub(crate) fn channel_word(which: Flag, channels: [Channel; 16]) -> RegisterBytes
-    ensures { λ r. ⌜ r ≡ held (channelWord (flagOf which) channels) ⌝ }
+pub(crate) fn word(w: u16) -> RegisterBytes
+    ensures { λ r. ⌜ r ≡ held (bytesOf 2 w) ⌝ }
 {
-    two(flags::word_bytes(which, channels))
+    two(bytes::bytes_of_u16(w))
 }

@@ -1,13 +1,13 @@
 -- Bits of a number, read one by one from the highest down, and whether any is set. Assumes nothing.
 use mathlib.Core.Path.{_≡_, refl}
-use mathlib.Core.Bool.{Bool, true, false, _||_, not}
+use mathlib.Core.Bool.{Bool, true, false, _||_, not, or-false, or-assoc}
 use mathlib.Core.List.{List, [], _∷_, _++_, map, reverse}
-use Prim.Native.Nat.{ℕ, zero, suc, _+_, _*_, _^_, _<_, _≤_}
+use Prim.Native.Nat.{ℕ, zero, suc, _+_, _-_, _*_, _^_, _<_, _≤_}
 use native.Mathlib.Nat.{pow-suc, lt-of-lt-of-le}
 use native.Mathlib.Numerals.{add-one}
 use native.Mathlib.Omega.{arith}
 use lib.Dec.{eqb}
-use lib.ListN.{length, getD, take, drop, length-append, length-take, length-drop, length-map, List·getD-map}
+use lib.ListN.{length, getD, take, drop, drop-of-length-le, length-append, length-take, length-drop, length-map, List·getD-map}
 use lib.Pow.{pow-mono}
 use lib.Seq.{take-suc, drop-cons}
 use borrow.Author.Tests.{ne-eqb}
@@ -47,7 +47,7 @@ byte-room k w bits h =
     lt-of-lt-of-le (byte-below (take k bits)) (pow-mono l)
 
 -- ---- the lowest bit first
-pub word-step : (k : ℕ) (bits : List Bool) → k < length bits → wordOf (drop (suc k) bits) * 2 + bitValue (getD bits k false) ≡ wordOf (drop k bits)
+word-step : (k : ℕ) (bits : List Bool) → k < length bits → wordOf (drop (suc k) bits) * 2 + bitValue (getD bits k false) ≡ wordOf (drop k bits)
 word-step k bits h = rw (drop-cons bits k false) (omega arith)
 
 -- a bit more, at the high end
@@ -62,18 +62,34 @@ word-below [] = omega arith
 word-below (true ∷ xs) = let h = word-below xs in rw pow-suc (omega arith)
 word-below (false ∷ xs) = let h = word-below xs in rw pow-suc (omega arith)
 
-pub word-room : (k w : ℕ) (bits : List Bool) → length bits ≤ k + w → wordOf (drop k bits) < 2 ^ w
+word-room : (k w : ℕ) (bits : List Bool) → length bits ≤ k + w → wordOf (drop k bits) < 2 ^ w
 word-room k w bits h =
     let l : length (drop k bits) ≤ w = simp length-drop (omega arith) in
     lt-of-lt-of-le (word-below (drop k bits)) (pow-mono l)
 
--- ---- a flag of the channels, as a word: a channel more, the room of fifteen, and that any has it where the word of all is not 0
-module _ (p : Channel → Bool) (k : ℕ) (cs : List Channel) where
-  pub flag-step : p nothing ≡ false → k < length cs → wordOf (drop (suc k) (map p cs)) * 2 + bitValue (p (getD cs k nothing)) ≡ wordOf (drop k (map p cs))
-  flag-step z h = rw (← List·getD-map p cs k nothing, z) (word-step k (map p cs) (rw length-map h))
+-- ---- a flag of the sixteen channels, as a word, from the last channel down: none yet, room for one more, one more
+module _ (p : Channel → Bool) (cs : List Channel) (l : length cs ≡ 16) where
+  pub flag-none : 0 ≡ wordOf (drop 16 (map p cs))
+  flag-none = let h : length (map p cs) ≤ 16 = rw (length-map, l) (omega arith) in rw (drop-of-length-le (map p cs) {i = 16} h)
 
-  pub flag-room : (n : ℕ) → length cs ≡ 16 → 0 < k → n ≡ wordOf (drop k (map p cs)) → n < 32768
-  flag-room n l h e = rw e (word-room k 15 (map p cs) (rw (length-map, l) (omega arith)))
+  pub flag-room : (k n : ℕ) → 0 < k → n ≡ wordOf (drop k (map p cs)) → n < 32768
+  flag-room k n h e = rw e (word-room k 15 (map p cs) (rw (length-map, l) (omega arith)))
+
+  pub flag-next : (k n r : ℕ) (b : Bool) → p nothing ≡ false → 0 < k → k ≤ 16 → n ≡ wordOf (drop k (map p cs)) → b ≡ p (getD cs (k - 1) nothing)
+      → r ≡ n * 2 + bitValue b → r ≡ wordOf (drop (k - 1) (map p cs))
+  flag-next k n r b z h i e q f =
+      let s : suc (k - 1) ≡ k = omega arith in
+      let g : k - 1 < length (map p cs) = rw (length-map, l) (omega arith) in
+      rw (f, e, q, ← List·getD-map p cs (k - 1) nothing, z) (rw s at (word-step (k - 1) (map p cs) g))
+
+-- ---- that any channel has a flag: one channel more, and that it is so where the word of all is not 0
+any-snoc : (p : Channel → Bool) (cs : List Channel) (ch : Channel) → any p (cs ++ (ch ∷ [])) ≡ any p cs || p ch
+any-snoc p [] ch = or-false (p ch)
+any-snoc p (x ∷ cs) ch = rw (any-snoc p cs ch, or-assoc)
+
+pub any-next : (p : Channel → Bool) (cs : List Channel) (k : ℕ) (a b : Bool) → k < length cs → a ≡ any p (take k cs) → b ≡ p (getD cs k nothing)
+    → a || b ≡ any p (take (k + 1) cs)
+any-next p cs k a b h e q = rw (add-one, take-suc cs k nothing, any-snoc, e, q)
 
 or-not-zero : (b : Bool) (a : Bool) (w : ℕ) → a ≡ not (eqb w 0) → b || a ≡ not (eqb (bitValue b + 2 * w) 0)
 or-not-zero true a w e = rw (ne-eqb (1 + 2 * w) 0 (λ z. omega (arith, z)))

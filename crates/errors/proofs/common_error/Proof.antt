@@ -4,7 +4,7 @@ use mathlib.Core.List.{map}
 use borrow.Author.Needs.{needs}
 use Rattle.integers.specs.Bytes.{bytesOf}
 use Rattle.model.specs.Errors.{wordOf, hasHis, hasAct, comBytes, commonErrorBytes}
-use Rattle.errors.specs.declared.words.ErrorWords.{ErrorWords}
+use Rattle.errors.specs.declared.words.Words.{Words}
 use Rattle.errors.proofs.common_error.Statement.{statement}
 use Rattle.errors.proofs.common_error.Tie as tie
 
@@ -43,8 +43,8 @@ unfolding commonErrorBytes comBytes bytesOf
 returns c m v n e =
     let cs = m .channels in
     let w = c .before .before .before .before .args .w in
-    let his : w .his ≡ wordOf (map hasHis cs) = ap (λ (x : ErrorWords). x .his) e in
-    let act : w .act ≡ wordOf (map hasAct cs) = ap (λ (x : ErrorWords). x .act) e in
+    let his : w .his ≡ wordOf (map hasHis cs) = ap (λ (x : Words). x .his) e in
+    let act : w .act ≡ wordOf (map hasAct cs) = ap (λ (x : Words). x .act) e in
     simp (
       v,
       c .com-bytes2 .ensures hasAct cs n act,

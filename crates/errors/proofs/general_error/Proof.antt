@@ -1,8 +1,6 @@
 -- `general_error` meets its contract. Assumes nothing.
-use mathlib.Core.Path.{ap}
 use borrow.Author.Needs.{needs}
 use Rattle.model.specs.Errors.{hasHis}
-use Rattle.errors.specs.declared.words.ErrorWords.{ErrorWords}
 use Rattle.errors.proofs.general_error.Statement.{statement}
 use Rattle.errors.proofs.general_error.Tie as tie
 
@@ -10,7 +8,7 @@ any-service-requires : tie.Need-any-service-requires
 any-service-requires c κs = search needs
 
 returns : tie.Need-returns
-returns c m v n e = rw v (c .any-service .ensures hasHis (m .channels) n (ap (λ (w : ErrorWords). w .his) e))
+returns c m v e = rw v (c .any-service .ensures hasHis (m .channels) e)
 
 pub general-error-spec : {M : Type 1} → statement M
 general-error-spec = tie.close (tie.spec any-service-requires returns)

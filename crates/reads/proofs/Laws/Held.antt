@@ -1,10 +1,13 @@
 -- What a caller of the copies needs: the bytes that a register's record holds, and that no register is wider than it. Assumes nothing.
 use mathlib.Core.Path.{_≡_, refl, ap, _∙_}
-use mathlib.Core.List.{List}
+use mathlib.Core.List.{List, []}
 use Prim.Native.Nat.{ℕ, _-_, _≤_}
 use native.Mathlib.Omega.{arith}
 use lib.ListN.{length, take, replicate}
 use lib.Seq.{take-append-seam}
+use Rattle.model.specs.declared.Channel.{Channel}
+use Rattle.model.specs.declared.Service.{Service}
+use Rattle.model.specs.declared.Shared.{Shared}
 use Rattle.model.specs.declared.ServiceRegister.{ServiceRegister}
 use Rattle.model.specs.declared.DigitalRegister.{DigitalRegister}
 use Rattle.model.specs.declared.CommonRegister.{CommonRegister}
@@ -13,8 +16,13 @@ use Rattle.model.specs.declared.DigitalRegister.the-variants.{FlagReg, OutTimer
 use Rattle.model.specs.declared.DigitalRegister.the-variants.{ChConfig, MinCurrent, MaxCurrent, UserReals, Maintenance, ChError}
 use Rattle.model.specs.declared.CommonRegister.the-variants.{OutFlags, InFlags, IOChError, ChError as CommonChError}
 use Rattle.model.specs.Registers.{Place, service, digital, common, unlisted, serviceRow, digitalRow, commonRow, size}
+use Rattle.model.specs.Reads.{serviceBytes, bytesRead}
+use Rattle.model.proofs.Facts.{sized}
+use Rattle.errors.specs.declared.words.Words.{Words}
+use Rattle.errors.specs.Words.{OfWords}
 use Rattle.reads.specs.declared.buffer.RegisterBytes.{RegisterBytes}
 use Rattle.reads.specs.Held.{width, held}
+use Rattle.reads.specs.Reading.{boxOf}
 
 -- the register's own bytes are found again
 pub held-bytes : (bs : List ℕ) → take (held bs .len) (held bs .bytes) ≡ bs
@@ -68,3 +76,9 @@ fits unlisted = omega arith
 -- bytes that are held have their length
 pub held-size : (b : RegisterBytes) (bs : List ℕ) (n : ℕ) → b ≡ held bs → length bs ≡ n → b .len ≡ n
 held-size b bs n e l = ap (λ (h : RegisterBytes). h .len) e ∙ held-length bs ∙ l
+
+-- a service register whose bytes hang on no channel: they are held for any channels, at the size of its row
+pub own : (r : ServiceRegister) (s : Shared) (v : Service) (w : Words) (b : RegisterBytes) → ((cs : List Channel) → b ≡ held (serviceBytes r (boxOf s v cs)))
+    → OfWords (λ cs. held (serviceBytes r (boxOf s v cs))) w b × (b .len ≡ serviceRow r .size)
+unfolding bytesRead
+own r s v w b f = (λ cs n e. f cs, held-size _ _ _ (f []) (sized .services r (boxOf s v [])))

@@ -1,22 +1,24 @@
 -- `common_bytes` meets its contract. Assumes nothing.
-use mathlib.Core.Path.{_≡_}
+use mathlib.Core.Path.{_≡_, refl}
 use lib.ListN.{length}
 use borrow.Author.Needs.{needs}
+use Rattle.integers.specs.Bytes.{bytesOf}
 use Rattle.model.specs.Reads.{commonBytes}
+use Rattle.reads.proofs.Laws.Held.{held-size}
 use Rattle.reads.proofs.common_bytes.Statement.{statement}
 use Rattle.reads.proofs.common_bytes.Tie as tie
 
 enum-told : tie.Need-enum-told
 enum-told c = search needs
 
-channel-word-requires : tie.Need-channel-word-requires
-channel-word-requires c κs = search needs
+word-requires : tie.Need-word-requires
+word-requires c κs = search needs
 
 enum-told-2 : tie.Need-enum-told-2
 enum-told-2 c = search needs
 
-channel-word-requires-2 : tie.Need-channel-word-requires-2
-channel-word-requires-2 c κs = search needs
+word-requires-2 : tie.Need-word-requires-2
+word-requires-2 c κs = search needs
 
 enum-told-3 : tie.Need-enum-told-3
 enum-told-3 c = search needs
@@ -37,35 +39,37 @@ four-requires-2 : tie.Need-four-requires-2
 four-requires-2 c κs = search needs
 
 returns : tie.Need-returns
-unfolding commonBytes
-returns c = simp (c .channel-word .ensures, c .before .enum-told .given .1)
+unfolding commonBytes bytesOf
+returns c =
+    let r = c .before .enum-told .given .1 in
+    (λ cs n e. simp (c .word .ensures, r, e), rw r (held-size _ _ 2 (c .word .ensures) refl))
 
 returns-2 : tie.Need-returns-2
-unfolding commonBytes
-returns-2 c = simp (c .channel-word2 .ensures, c .before .enum-told2 .given .1)
+unfolding commonBytes bytesOf
+returns-2 c =
+    let r = c .before .enum-told2 .given .1 in
+    (λ cs n e. simp (c .word2 .ensures, r, e), rw r (held-size _ _ 2 (c .word2 .ensures) refl))
 
 returns-3 : tie.Need-returns-3
-unfolding commonBytes
 returns-3 c =
-    let s = c .before .before .before .before in
-    let l : length (s .args .channels) ≡ 16 = search needs in
-    simp (c .four .ensures, c .before .io-ch-error .ensures (s .args .channels) l (s .pre), c .before .before .enum-told3 .given .1)
+    let r = c .before .before .enum-told3 .given .1 in
+    let l : length (c .before .io-ch-error .result) ≡ 4 = search needs in
+    (λ cs n e. simp (c .four .ensures, c .before .io-ch-error .ensures cs n e, r), rw r (held-size _ _ _ (c .four .ensures) l))
 
 returns-4 : tie.Need-returns-4
-unfolding commonBytes
 returns-4 c =
-    let s = c .before .before .before .before in
-    let l : length (s .args .channels) ≡ 16 = search needs in
-    simp (c .four2 .ensures, c .before .common-ch-error .ensures (s .args .channels) l (s .pre), c .before .before .enum-told4 .given .1)
+    let r = c .before .before .enum-told4 .given .1 in
+    let l : length (c .before .common-ch-error .result) ≡ 4 = search needs in
+    (λ cs n e. simp (c .four2 .ensures, c .before .common-ch-error .ensures cs n e, r), rw r (held-size _ _ _ (c .four2 .ensures) l))
 
 pub common-bytes-spec : {M : Type 1} → statement M
 common-bytes-spec =
     tie.close
     (tie.spec
     enum-told
-    channel-word-requires
+    word-requires
     enum-told-2
-    channel-word-requires-2
+    word-requires-2
     enum-told-3
     io-ch-error-requires
     four-requires

@@ -1,11 +1,12 @@
 -- `place_bytes` meets its contract. Assumes nothing.
-use mathlib.Core.Path.{_≡_, refl}
-use lib.ListN.{length}
+use mathlib.Core.Path.{refl, ap, _∙_}
+use mathlib.Core.Bool.{Bool}
+use mathlib.Core.List.{List}
 use borrow.Author.Needs.{needs}
-use Rattle.model.specs.Reads.{bytesRead}
-use Rattle.model.proofs.Facts.{sized}
-use Rattle.reads.specs.Reading.{boxOf}
+use Rattle.model.specs.Reads.{bytesRead, digitalBytes}
+use Rattle.reads.specs.Held.{held}
 use Rattle.reads.proofs.Laws.Held.{held-size}
+use Rattle.reads.proofs.Laws.Readings.{shown-levels}
 use Rattle.reads.proofs.place_bytes.Statement.{statement}
 use Rattle.reads.proofs.place_bytes.Tie as tie
 
@@ -35,31 +36,26 @@ none-requires c κs = search needs
 
 returns : tie.Need-returns
 unfolding bytesRead
-returns c =
-    let s = c .before .before .before .before in
-    let l : length (s .args .channels) ≡ 16 = search (needs, s .good .1 .1 .1 .1 .0) in
-    let e = c .service-bytes .ensures (s .args .channels) l (s .pre .0) in
-    rw (c .before .before .p .given .1) (e, held-size _ _ _ e (sized .services _ _))
+returns c = let e = c .service-bytes .ensures in rw (c .before .before .p .given .1) (λ i o cs n w own. e .0 cs n w, e .1)
 
 returns-2 : tie.Need-returns-2
 unfolding bytesRead
 returns-2 c =
-    let p = c .before .before .p2 .given .1 in
-    let own = rw p at (c .before .before .before .before .pre .1) in
     let e = c .sized-bytes .ensures in
-    rw p (rw (← own) (e .0), e .1)
+    let r = c .before .before .p2 .given .0 .1 .0 in
+    let ch = c .before .before .before .before .args .ch in
+    rw (c .before .before .p2 .given .1) (
+      λ i o cs n w own. rw (← o, own) (e .0 ∙ ap (λ (bs : List Bool). held (digitalBytes r bs ch)) (shown-levels _ cs n w)),
+      e .1,
+    )
 
 returns-3 : tie.Need-returns-3
 unfolding bytesRead
-returns-3 c =
-    let a = c .before .before .before .before .args in
-    let p = c .before .before .p3 .given in
-    let e = c .common-bytes .ensures in
-    rw (p .1) (e, held-size _ _ _ e (sized .commons (p .0 .0) (boxOf (a .s) (a .v) (a .channels))))
+returns-3 c = let e = c .common-bytes .ensures in rw (c .before .before .p3 .given .1) (λ i o cs n w own. e .0 cs n w, e .1)
 
 returns-4 : tie.Need-returns-4
 unfolding bytesRead
-returns-4 c = let e = c .none .ensures in rw (c .before .enum-told .given .1) (e, held-size _ _ 0 e refl)
+returns-4 c = let e = c .none .ensures in rw (c .before .enum-told .given .1) (λ i o cs n w own. e, held-size _ _ 0 e refl)
 
 pub place-bytes-spec : {M : Type 1} → statement M
 place-bytes-spec =

@@ -1,8 +1,8 @@
--- `flags::any_bit` meets its contract. Assumes nothing.
+-- `any_bit` meets its contract. Assumes nothing.
 use mathlib.Core.Path.{refl}
 use Rattle.model.specs.Errors.{anyBit}
-use Rattle.errors.proofs.flags.any_bit.Statement.{statement}
-use Rattle.errors.proofs.flags.any_bit.Tie as tie
+use Rattle.errors.proofs.any_bit.Statement.{statement}
+use Rattle.errors.proofs.any_bit.Tie as tie
 
 returns : tie.Need-returns
 unfolding anyBit
