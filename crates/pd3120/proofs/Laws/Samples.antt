@@ -2,13 +2,10 @@
 use mathlib.Core.Path.{_≡_, refl, sym, ap, _∙_}
 use mathlib.Core.Bool.{true, false}
 use mathlib.Core.List.{[]}
-use Prim.Native.Nat.{ℕ, _-_, _<_, _≤_}
-use native.Mathlib.Omega.{arith}
-use lib.Dec.{leb}
+use Prim.Native.Nat.{ℕ, _-_}
 use lib.Ieee.{Float}
 use lib.ListN.{getD, set}
 use lib.Seq.{set-getD}
-use borrow.Author.Tests.{le-leb, lt-leb}
 use Rattle.model.specs.declared.Channel.{Channel}
 use Rattle.model.specs.declared.Module.{Module}
 use Rattle.model.specs.declared.Refusal.{Refusal}
@@ -18,27 +15,11 @@ use Rattle.model.specs.State.{nothing, channelAt, withChannels}
 use Rattle.model.specs.Settings.{isDigital}
 use Rattle.model.specs.Questions.{levelReply, currentReply}
 use Rattle.model.specs.Calls.{Stepped, answerOf, sampledAs}
-use Rattle.model.proofs.Laws.Tests.{by-test, range}
+use Rattle.registers.specs.Places.{slotOf}
 use Rattle.questions.proofs.Laws.Answers.{yes}
 use Rattle.pd3120.specs.declared.Answered.{Answered}
 use Rattle.pd3120.specs.declared.Sampled.{Sampled}
-use Rattle.pd3120.specs.Answers.{stepOf, sampleOf, sampleSlot}
-
--- ---- the place of its channel
-digital-is : (k : ℕ) → 1 ≤ k → k ≤ 16 → isDigital k ≡ true
-digital-is k l h = rw (le-leb 1 k l, le-leb k 16 h)
-
-pub slot-in : (k : ℕ) → 1 ≤ k → k ≤ 16 → k - 1 ≡ sampleSlot k
-slot-in k l h = rw (digital-is k l h)
-
-pub slot-below : (k : ℕ) → k < 1 → 0 ≡ sampleSlot k
-slot-below k l = rw (lt-leb 1 k l)
-
-pub slot-above : (k : ℕ) → 16 < k → 0 ≡ sampleSlot k
-slot-above k l = let e : leb 1 k ≡ true = le-leb 1 k (omega arith) in rw (e, lt-leb k 16 l)
-
-pub slot-fits : (k : ℕ) → sampleSlot k < 16
-slot-fits k = by-test (λ (i : ℕ). i < 16) (isDigital k) (λ e. let (p, q) = range k e in omega (arith, p, q)) (λ e. omega arith)
+use Rattle.pd3120.specs.Answers.{stepOf, sampleOf}
 
 -- an accepted sample is for channel 1 to 16
 pub level-digital : (k n : ℕ) → levelReply k ≡ Done n → isDigital k ≡ true
@@ -51,20 +32,20 @@ current-digital k x n e = yes (isDigital k) _ _ n e .0
 
 -- ---- the box m with a channel put back at its place, and the answer, are the model's; q is the model's reply, and r the code's
 abbrev pub putBack : Reply → Channel → ℕ → Module → Stepped
-putBack r left k m = record { answer = answerOf r [] false false; box = withChannels (set (m .channels) (sampleSlot k) left) m }
+putBack r left k m = record { answer = answerOf r [] false false; box = withChannels (set (m .channels) (slotOf k) left) m }
 
 -- a sample that is done leaves what f makes of the channel
 pub done : (r q : Reply) (n k : ℕ) (f : Channel → Channel) (ch left : Channel) → r ≡ q → r ≡ Done n → ((n : ℕ) → q ≡ Done n → isDigital k ≡ true) → left ≡ f ch
-    → (m : Module) → getD (m .channels) (sampleSlot k) nothing ≡ ch → putBack r left k m ≡ sampledAs q k (f (channelAt m k)) m
+    → (m : Module) → getD (m .channels) (slotOf k) nothing ≡ ch → putBack r left k m ≡ sampledAs q k (f (channelAt m k)) m
 done r q n k f ch left e d h g m p =
-    let s : sampleSlot k ≡ k - 1 = rw (h n (sym e ∙ d)) in
+    let s : slotOf k ≡ k - 1 = rw (h n (sym e ∙ d)) in
     let same : left ≡ f (channelAt m k) = g ∙ ap f (sym p ∙ ap (λ (i : ℕ). getD (m .channels) i nothing) s) in
     rw (← e, d, s, same)
 
 -- one that is refused leaves the channel
 pub refused : (r q : Reply) (w : Refusal) (k : ℕ) (ch x : Channel) → r ≡ q → r ≡ Refused w
-    → (m : Module) → getD (m .channels) (sampleSlot k) nothing ≡ ch → putBack r ch k m ≡ sampledAs q k x m
-refused r q w k ch x e d m p = rw (← e, d, ← p, set-getD (m .channels) (sampleSlot k) nothing)
+    → (m : Module) → getD (m .channels) (slotOf k) nothing ≡ ch → putBack r ch k m ≡ sampledAs q k x m
+refused r q w k ch x e d m p = rw (← e, d, ← p, set-getD (m .channels) (slotOf k) nothing)
 
 -- a sample or a tick among all calls answers no bits
 pub plain-answer : (x : Stepped) (s : Sampled) (a : Answered) → sampleOf s ≡ x

@@ -1,53 +1,99 @@
 -- A wire call put together: the clearing first, the preset last, and the two bits where they are taken. Assumes nothing.
-use mathlib.Core.Path.{_≡_, sym, ap, _∙_}
-use mathlib.Core.Bool.{Bool}
+use mathlib.Core.Path.{_≡_, refl, sym, ap, _∙_}
+use mathlib.Core.Bool.{Bool, not}
 use mathlib.Core.List.{List, []}
-use Prim.Native.Nat.{ℕ, _<_}
-use lib.ListN.{length}
+use Prim.Native.Nat.{ℕ, _/_}
+use lib.Dec.{eqb}
+use Rattle.model.specs.declared.Channel.{Channel}
 use Rattle.model.specs.declared.Module.{Module}
 use Rattle.model.specs.declared.Service.{Service}
-use Rattle.model.specs.Errors.{dataError, generalError}
+use Rattle.model.specs.declared.Shared.{Shared}
+use Rattle.model.specs.Errors.{hasAct, hasHis, dataError, generalError}
 use Rattle.model.specs.Calls.{read, write, answerOf, cleared, watchdogPreset, step}
-use Rattle.errors.specs.Words.{OfBox}
+use Rattle.errors.specs.declared.words.Words.{Words}
+use Rattle.errors.specs.Words.{wordsOf, OfBoxHas}
+use Rattle.errors.proofs.Laws.Words.{any-act, any-his}
+use Rattle.registers.specs.Places.{slotOf}
 use Rattle.reads.specs.declared.Reading.{Reading}
-use Rattle.reads.specs.Reading.{boxOf, putBack, readingOf, bufferOf}
-use Rattle.reads.proofs.Back.{slot-below, put-back}
+use Rattle.reads.specs.Reading.{boxOf, putBack, readingOf, bufferOf, OfParts}
+use Rattle.reads.proofs.Back.{put-back}
+use Rattle.writes.specs.declared.Begun.{Begun}
 use Rattle.writes.specs.declared.Written.{Written}
-use Rattle.writes.specs.Accepted.{writeOf}
-use Rattle.pd3120.specs.Answers.{stepOf, ReadBy}
+use Rattle.writes.specs.Accepted as Whole
+use Rattle.writes.specs.Begun.{wholeOf, BegunBy}
+use Rattle.pd3120.specs.Answers.{stepOf, RecordBy, SharedBy}
+use Rattle.pd3120.specs.Parts.{Has, readOf, writeOf}
+
+cleared-parts : (m : Module) (s : Shared) (v : Service) → m .shared ≡ s → v ≡ cleared m .service → boxOf s v (m .channels) ≡ cleared m
+unfolding cleared
+cleared-parts m s v p e = ap (λ (t : Shared). boxOf t v (m .channels)) (sym p) ∙ ap (λ (u : Service). boxOf (m .shared) u (m .channels)) e
 
 pub cleared-box : (m : Module) (v : Service) → v ≡ cleared m .service → boxOf (m .shared) v (m .channels) ≡ cleared m
-unfolding cleared
-cleared-box m v e = rw e
+cleared-box m v e = cleared-parts m (m .shared) v refl e
 
 -- a read, from what each of its parts gives
-module _ (m : Module) (n : ℕ) (lent : List ℕ) (l : length (m .channels) ≡ 16) (v : Service) (e : v ≡ cleared m .service)
-    (d : Reading) (f : d ≡ readingOf (boxOf (m .shared) v (m .channels)) n lent)
-    (after : Service) (g : after ≡ watchdogPreset (boxOf (m .shared) (d .service) (m .channels)) .service) where
+module _ (m : Module) (s : Shared) (v : Service) (ch : Channel) (w : Words) (n : ℕ) (lent : List ℕ) (has : Has s v ch (slotOf (n / 16)) m)
+    (ws : w ≡ wordsOf (m .channels)) (ready : Service) (e : RecordBy cleared v ready)
+    (d : Reading) (f : OfParts (λ cs. readingOf (boxOf s ready cs) n lent) (slotOf (n / 16)) w ch d)
+    (after : Service) (g : SharedBy watchdogPreset s (d .service) after) where
+  ready-is : ready ≡ cleared m .service
+  ready-is = e m (has .service-is)
+
+  box : boxOf s ready (m .channels) ≡ cleared m
+  box = cleared-parts m s ready (has .shared-is) ready-is
+
   is-reading : d ≡ readingOf (cleared m) n lent
-  is-reading = f ∙ ap (λ (b : Module). readingOf b n lent) (cleared-box m v e)
+  is-reading = f (m .channels) (has .sixteen) ws (has .channel-is) ∙ ap (λ (b : Module). readingOf b n lent) box
 
-  box-is : putBack after (d .at) (d .channel) m ≡ step m (read n lent) .box
+  after-is : after ≡ watchdogPreset (boxOf (m .shared) (d .service) (m .channels)) .service
+  after-is = g (boxOf (m .shared) (d .service) (m .channels)) (has .shared-is) refl
+
+  box-is : putBack after (slotOf (n / 16)) (d .channel) m ≡ step m (read n lent) .box
   unfolding step readingOf cleared watchdogPreset
-  box-is = rw (g, is-reading) (ap watchdogPreset (put-back (cleared m) n lent l))
+  box-is = rw (after-is, is-reading) (ap watchdogPreset (put-back (cleared m) n lent (has .sixteen)))
 
-  module _ (buffer : List ℕ) (h : buffer ≡ bufferOf (boxOf (m .shared) v (m .channels)) n lent)
-      (act his : Bool) (i : OfBox dataError v (d .words) act) (j : OfBox generalError v (d .words) his) where
+  module _ (buffer : List ℕ) (h : OfParts (λ cs. bufferOf (boxOf s ready cs) n lent) (slotOf (n / 16)) w ch buffer)
+      (act his : Bool) (i : OfBoxHas hasAct dataError ready (not (eqb (w .act) 0)) act) (j : OfBoxHas hasHis generalError ready (not (eqb (w .his) 0)) his) where
+    buffer-is : buffer ≡ bufferOf (cleared m) n lent
+    buffer-is = h (m .channels) (has .sixteen) ws (has .channel-is) ∙ ap (λ (b : Module). bufferOf b n lent) box
+
     answer-is : answerOf (d .reply) buffer act his ≡ step m (read n lent) .answer
     unfolding step readingOf bufferOf cleared
     answer-is =
         let b = cleared m in
-        let w = ap (λ (x : Reading). x .words) is-reading in
-        rw (i b (sym e) l w, j b (sym e) l w, h ∙ ap (λ (x : Module). bufferOf x n lent) (cleared-box m v e), is-reading)
+        rw (i b (sym ready-is) (any-act w (m .channels) ws), j b (sym ready-is) (any-his w (m .channels) ws), buffer-is, is-reading)
 
-    pub read-by : ReadBy m (read n lent)
-        (record { service = after; at = d .at; channel = d .channel; reply = d .reply; «data_error» = act; «general_error» = his }) buffer
-    unfolding readingOf
-    read-by = (rw f (slot-below n), λ k. record { answer = answer-is k; box = box-is k })
+    pub read-by : readOf m n (record { service = after; channel = d .channel; reply = d .reply; «data_error» = act; «general_error» = his }) buffer
+        ≡ step m (read n lent)
+    read-by = λ k. record { answer = answer-is k; box = box-is k }
 
--- a write
+-- a write in two steps
+module _ (m : Module) (s : Shared) (v : Service) (ch : Channel) (n : ℕ) (bs : List ℕ) (has : Has s v ch (slotOf (n / 16)) m) (ready : Service)
+    (e : RecordBy cleared v ready) (d : Begun) (f : BegunBy s ready ch n bs d) (after : Service) (g : SharedBy watchdogPreset (d .shared) (d .service) after) where
+  is-written : record { reply = d .reply; after = wholeOf d (slotOf (n / 16)) (cleared m) } ≡ Whole.writeOf (cleared m) n bs
+  unfolding cleared
+  is-written = f .1 (cleared m) (has .shared-is) (sym (e m (has .service-is))) (has .sixteen) (has .channel-is)
+
+  preset-is : after ≡ watchdogPreset (wholeOf d (slotOf (n / 16)) m) .service
+  preset-is = g (wholeOf d (slotOf (n / 16)) m) refl refl
+
+  abbrev next : Begun
+  next = record { reply = d .reply; shared = d .shared; service = after; channel = d .channel; count = d .count; place = d .place; word = d .word }
+
+  whole-is : wholeOf next (slotOf (n / 16)) m ≡ watchdogPreset (Whole.writeOf (cleared m) n bs .after)
+  unfolding cleared watchdogPreset
+  whole-is = rw preset-is (ap (λ (x : Written). watchdogPreset (x .after)) is-written)
+
+  reply-is : d .reply ≡ Whole.writeOf (cleared m) n bs .reply
+  reply-is = ap (λ (x : Written). x .reply) is-written
+
+  pub write-by : writeOf m n next ≡ step m (write n bs)
+  unfolding step cleared watchdogPreset Whole.writeOf
+  write-by = rw (whole-is, reply-is)
+
+-- a write of the whole box
 pub write-answer : (m : Module) (n : ℕ) (bs : List ℕ) (ready : Module) (d : Written) (after : Module) (act his : Bool)
-    → ready ≡ cleared m → d ≡ writeOf ready n bs → after ≡ watchdogPreset (d .after) → act ≡ dataError (d .after) → his ≡ generalError (d .after)
+    → ready ≡ cleared m → d ≡ Whole.writeOf ready n bs → after ≡ watchdogPreset (d .after) → act ≡ dataError (d .after) → his ≡ generalError (d .after)
     → stepOf (record { after = after; reply = d .reply; «data_error» = act; «general_error» = his }) [] ≡ step m (write n bs)
-unfolding step writeOf cleared
+unfolding step Whole.writeOf cleared
 write-answer m n bs ready d after act his e f g h i = rw (g, h, i, f, e)
