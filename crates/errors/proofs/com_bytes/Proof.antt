@@ -1,8 +1,6 @@
 -- `com_bytes` meets its contract. Assumes nothing.
-use Prim.Native.Nat.{_+_, _*_}
-use mathlib.Core.List.{map}
 use borrow.Author.Needs.{needs}
-use Rattle.model.specs.Errors.{bitValue, wordOf, any, comBytes}
+use Rattle.model.specs.Errors.{comBytes}
 use Rattle.errors.proofs.Laws.Bits.{any-word, com-number, low-first}
 use Rattle.errors.proofs.com_bytes.Statement.{statement}
 use Rattle.errors.proofs.com_bytes.Tie as tie
@@ -37,7 +35,7 @@ array-read-t18 c = search needs
 returns : tie.Need-returns
 unfolding comBytes
 returns c p cs n e =
-    rw (c .bytes-of-u32 .ensures, c .before .bit .ensures, com-number p cs n, e, ← any-word p cs) (low-first (wordOf (map p cs) * 2 + bitValue (any p cs) * 131072))
+    rw (c .bytes-of-u32 .ensures, c .before .bit .ensures, com-number p cs n, e, ← any-word p cs) (low-first _)
 
 pub com-bytes-spec : {M : Type 1} → statement M
 com-bytes-spec =

@@ -1,10 +1,9 @@
 -- `read` meets its contract. Assumes nothing.
-use mathlib.Core.Path.{_≡_, sym, ap, subst, _∙_}
+use mathlib.Core.Path.{sym, ap, subst, _∙_}
 use mathlib.Core.List.{List}
 use Prim.Native.Nat.{ℕ, _/_, _<_}
 use lib.ListN.{length, getD, take}
 use borrow.Author.Needs.{needs}
-use Rattle.model.specs.declared.Channel.{Channel}
 use Rattle.model.specs.declared.Reply.{Reply}
 use Rattle.model.specs.State.{nothing}
 use Rattle.model.specs.Reads.{bytesRead}
