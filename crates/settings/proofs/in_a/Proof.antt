@@ -20,7 +20,9 @@ level-of-requires c κs = search needs
 
 returns-2 : tie.Need-returns-2
 unfolding inA
-returns-2 c = simp (c .level-of .ensures, c .before .ref-a .ensures, sym (c .before .before .before .simulates-feedback .ensures) ∙ c .before .before .if1 .left)
+returns-2 c =
+    let t = c .before .before in
+    simp (c .level-of .ensures, c .before .ref-a .ensures, sym (t .before .simulates-feedback .ensures) ∙ t .if1 .left)
 
 pub in-a-spec : {M : Type 1} → statement M
 in-a-spec =

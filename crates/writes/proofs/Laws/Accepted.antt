@@ -28,6 +28,7 @@ two-bytes ChError bs q e = let z : _≡_ {A = ℕ} 0 1 = cc in absurd (omega ari
 pub done : (enable : Bool) (n : ℕ) (p : Place) (bs : List ℕ) (r : Reply) (k : ℕ) → r ≡ writeReply enable n p bs → r ≡ Done k → Accepted p bs
 done enable n p bs r k w d = accepted enable n p bs k (sym w ∙ d)
 
+-- the answer with the box that it leaves is the write's
 pub answered : (m : Module) (n : ℕ) (bs : List ℕ) (p : Place) (r : Reply) (after : Module) → p ≡ place n → r ≡ writeReply (writeEnable (m .shared)) n p bs
     → after ≡ writeLeaves r p bs m
     → record { reply = r; after = after } ≡ writeOf m n bs

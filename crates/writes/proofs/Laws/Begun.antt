@@ -75,7 +75,7 @@ every-channel WriteEnable xs l = map-same (everyWritten WriteEnable) (λ ch. ref
 every-channel CommonError xs l = all-of (λ (j : ℕ). everyWritten CommonError) 16 0 xs l ∙ each-map (everyWritten CommonError) 0 xs
 
 -- ---- the box
--- an accepted write
+-- the parts after an accepted write, and each channel, make the box that it leaves
 whole : (p : Place) (bs : List ℕ) (i : ℕ) (s : Shared) (v : Service) (cs : List Channel) → OfChannel i p → length cs ≡ 16 →
     record {
       shared = sharedAfter p bs s;
@@ -101,6 +101,7 @@ count-fits (digital k r) = omega arith
 count-fits (common r) = omega arith
 count-fits unlisted = omega arith
 
+-- the parts that `begin` gives, of a write that is done and of one that is refused
 module _ (s : Shared) (v : Service) (ch : Channel) (n : ℕ) (bs : List ℕ) (p : Code.Place) (r : Reply) (e : placed p ≡ place n)
     (w : r ≡ writeReply (writeEnable s) n (placed p) bs) where
   own : OfChannel (slotOf (n / 16)) (placed p)
