@@ -6,10 +6,11 @@ use Prim.Native.Nat.{ℕ, _/_}
 use lib.Dec.{eqb}
 use Rattle.model.specs.declared.Channel.{Channel}
 use Rattle.model.specs.declared.Module.{Module}
+use Rattle.model.specs.declared.Reply.{Reply}
 use Rattle.model.specs.declared.Service.{Service}
 use Rattle.model.specs.declared.Shared.{Shared}
 use Rattle.model.specs.Errors.{hasAct, hasHis, dataError, generalError}
-use Rattle.model.specs.Calls.{read, write, answerOf, cleared, watchdogPreset, step}
+use Rattle.model.specs.Calls.{read, write, Stepped, answerOf, wireAnswer, cleared, watchdogPreset, step}
 use Rattle.errors.specs.declared.words.Words.{Words}
 use Rattle.errors.specs.Words.{wordsOf, OfBoxHas}
 use Rattle.errors.proofs.Laws.Words.{any-act, any-his}
@@ -67,7 +68,15 @@ module _ (m : Module) (s : Shared) (v : Service) (ch : Channel) (w : Words) (n :
         ≡ step m (read n lent)
     read-by = λ k. record { answer = answer-is k; box = box-is k }
 
--- a write in two steps
+-- a write in two steps: the box b that it leaves, with its answer
+abbrev answered : Reply → Module → Stepped
+answered r b = record { answer = wireAnswer r [] b; box = b }
+
+written-as : (m : Module) (n : ℕ) (bs : List ℕ) (r : Reply) → r ≡ Whole.writeOf (cleared m) n bs .reply
+    → answered r (watchdogPreset (Whole.writeOf (cleared m) n bs .after)) ≡ step m (write n bs)
+unfolding step cleared watchdogPreset Whole.writeOf
+written-as m n bs r e = rw e
+
 module _ (m : Module) (s : Shared) (v : Service) (ch : Channel) (n : ℕ) (bs : List ℕ) (has : Has s v ch (slotOf (n / 16)) m) (ready : Service)
     (e : RecordBy cleared v ready) (d : Begun) (f : BegunBy s ready ch n bs d) (after : Service) (g : SharedBy watchdogPreset (d .shared) (d .service) after) where
   is-written : record { reply = d .reply; after = wholeOf d (slotOf (n / 16)) (cleared m) } ≡ Whole.writeOf (cleared m) n bs
@@ -88,8 +97,7 @@ module _ (m : Module) (s : Shared) (v : Service) (ch : Channel) (n : ℕ) (bs : 
   reply-is = ap (λ (x : Written). x .reply) is-written
 
   pub write-by : writeOf m n next ≡ step m (write n bs)
-  unfolding step cleared watchdogPreset Whole.writeOf
-  write-by = rw (whole-is, reply-is)
+  write-by = ap (answered (d .reply)) whole-is ∙ written-as m n bs (d .reply) reply-is
 
 -- a write of the whole box
 pub write-answer : (m : Module) (n : ℕ) (bs : List ℕ) (ready : Module) (d : Written) (after : Module) (act his : Bool)
