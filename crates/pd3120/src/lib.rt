@@ -4,6 +4,8 @@ ghost use mathlib.Core.Path.{_≡_};
 ghost use mathlib.Core.Bool.{false};
 ghost use mathlib.Core.List.{[]};
 ghost use Rattle.model.specs.Errors.{dataError, generalError};
+ghost use Rattle.model.specs.Registers.{place};
+ghost use Rattle.model.specs.Questions.{readReply};
 ghost use Rattle.model.specs.Calls.{read, write, level, current, tick, step, cleared, watchdogPreset};
 ghost use Rattle.pd3120.specs.Answers.{stepOf, sampleOf, tickOf, outputAt, requestOf, answerBuffer, lentAfter, RecordBy, SharedBy, PoweredUp};
 ghost use Rattle.pd3120.specs.Answers.{StoredBy};
@@ -121,7 +123,8 @@ pub fn read_changes(
     swno: u16,
     buf: &mut [u8],
 ) -> Changed
-    ensures { λ r. ⌜ ReadBy s v ch w swno (now (buf .entry)) r (now (buf .exit)) ⌝ }
+    ensures step { λ r. ⌜ ReadBy s v ch w swno (now (buf .entry)) r (now (buf .exit)) ⌝ }
+    ensures reply { λ r. ⌜ r .reply ≡ readReply swno (place swno) (now (buf .entry)) ⌝ }
 {
     let ready = clear(v);
     let done = reads::read(s, ready, ch, w, swno, buf);

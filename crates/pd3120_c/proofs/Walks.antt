@@ -1,6 +1,7 @@
 pub mod Box
 pub mod Element
 pub mod Output
+pub mod Parts
 pub mod Plain
 pub mod PowerUp
 pub mod Read
@@ -8,5 +9,6 @@ pub mod Grouped
 pub mod Sample
 pub mod Store
 pub mod Tick
+pub mod Turns
 pub mod Types
 pub mod Write

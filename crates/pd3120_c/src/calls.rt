@@ -47,14 +47,7 @@ pub fn look(m: Module) -> Words
     words::of_channels(channels)
 }
 
-pub fn read(
-    s: Shared,
-    v: Service,
-    ch: Channel,
-    w: Words,
-    swno: u16,
-    buf: &mut [u8],
-) -> ReadDone
+pub fn read(s: Shared, v: Service, ch: Channel, w: Words, swno: u16, buf: &mut [u8]) -> ReadDone
     ensures { λ r. ⌜ ReadLeft s v ch w swno (now (buf .entry)) r (now (buf .exit)) ⌝ }
 {
     let done = pd3120::read_changes(s, v, ch, w, swno, buf);

@@ -38,7 +38,7 @@ returns c =
     let l : length (m .channels) ≡ 16 = rw length-map at (start .good .0 .1 .1 .1 .1 .0 .1 .0 .1) in
     let at = c .before .before .before .before .before .before .before .before .before .before .before .wire-slot .ensures .0 in
     let own = ap (λ (i : ℕ). getD (m .channels) i nothing) (sym at) in
-    rw at (c .before .before .before .before .read-changes .ensures m (record { shared-is = refl; service-is = refl; sixteen = l; channel-is = own }) (c .before .before .before .before .before .before .of-channels .ensures))
+    rw at (c .before .before .before .before .read-changes .ensures .0 m (record { shared-is = refl; service-is = refl; sixteen = l; channel-is = own }) (c .before .before .before .before .before .before .of-channels .ensures))
 
 pub read-spec : {M : Type 1} → statement M
 read-spec =

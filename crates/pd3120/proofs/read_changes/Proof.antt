@@ -27,9 +27,11 @@ returns c =
     let s = c .before .before .before .before .before .before .before .before .before .before .before .before .before .args in
     let k = c .before .before .before .before .before .before .before .before .before .before .before .clear in
     let r = c .before .before .before .before .before .before .before .before .before .read in
-    let p = c .before .before .before .before .preset-watchdog in
-    λ m has ws. read-by m (s .s) (s .v) (s .ch) (s .w) (s .swno) (s .buf .now) has ws (k .result) (k .ensures) (r .result) (r .ensures .0) (p .result) (p .ensures)
-    _ (r .ensures .1) _ _ (c .before .before .data-error .ensures) (c .general-error .ensures)
+    let p = c .before .before .before .before .preset-watchdog in (
+      λ m has ws. read-by m (s .s) (s .v) (s .ch) (s .w) (s .swno) (s .buf .now) has ws (k .result) (k .ensures) (r .result) (r .ensures .0) (p .result) (p .ensures)
+          _ (r .ensures .1 .0) _ _ (c .before .before .data-error .ensures) (c .general-error .ensures),
+      r .ensures .1 .1,
+    )
 
 pub read-changes-spec : {M : Type 1} → statement M
 read-changes-spec =

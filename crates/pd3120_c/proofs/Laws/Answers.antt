@@ -2,36 +2,52 @@
 use mathlib.Core.Path.{_≡_, refl, sym, ap, _∙_}
 use mathlib.Core.Bool.{false}
 use mathlib.Core.List.{List}
-use Prim.Native.Nat.{ℕ}
+use Prim.Native.Nat.{ℕ, _/_}
 use lib.ListN.{getD, set}
 use Rattle.model.specs.declared.Channel.{Channel}
 use Rattle.model.specs.declared.Module.{Module}
+use Rattle.model.specs.declared.Service.{Service}
 use Rattle.model.specs.declared.Shared.{Shared}
 use Rattle.model.specs.State.{nothing, withChannels}
-use Rattle.model.specs.Calls.{Request, read, Stepped, step}
-use Rattle.pd3120.specs.declared.Answered.{Answered}
+use Rattle.model.specs.Questions.{numberOf, lengthOf}
+use Rattle.model.specs.Calls.{Request, Stepped, step}
+use Rattle.errors.specs.declared.words.Words.{Words}
+use Rattle.registers.specs.Places.{slotOf}
+use Rattle.writes.specs.declared.Begun.{Begun}
+use Rattle.writes.specs.Begun.{wholeOf}
 use Rattle.pd3120.specs.declared.Changed.{Changed}
 use Rattle.pd3120.specs.declared.samples.Taken.{Taken}
-use Rattle.pd3120.specs.Answers.{stepOf, ReadBy, SampleBy, sampleSlot}
+use Rattle.pd3120.specs.Parts.{ReadBy, WriteBy, SampleBy}
 use Rattle.pd3120_c.specs.declared.ChannelDone.{ChannelDone}
-use Rattle.pd3120_c.specs.declared.Done.{Done}
-use Rattle.pd3120_c.specs.Codes.{replyCode, answerCode, doneBy, Left, SampleLeft, ReadLeft}
-
--- what the caller has of a module and its code
-pub left : (s : Stepped) (d : Done) → d ≡ doneBy s → Left s (d .after) (d .code)
-left s d e = (ap (λ (a : Done). a .after) e, ap (λ (a : Done). a .code) e)
-
-pub wire-done : (s : Stepped) (a : Answered) (buf : List ℕ) (code : ℕ) → stepOf a buf ≡ s → code ≡ replyCode (a .reply) (a .«data_error») (a .«general_error»)
-    → record { after = a .after; code = code } ≡ doneBy s
-wire-done s a buf code e f = rw f (ap doneBy e)
+use Rattle.pd3120_c.specs.Codes.{replyCode, answerCode, Left, SampleLeft, ReadLeft, WriteLeft}
 
 -- the parts of a read put back
-pub read-left : (m : Module) (n : ℕ) (lent : List ℕ) (c : Changed) (lent′ : List ℕ) (code : ℕ) → ReadBy m (read n lent) c lent′
-    → code ≡ replyCode (c .reply) (c .«data_error») (c .«general_error»)
-    → ReadLeft m n lent (record { service = c .service; channel = c .channel; at = c .at; code = code }) lent′
-read-left m n lent c lent′ code h f =
-    let e = h .1 in
-    (h .0, ((ap (λ (s : Stepped). s .box) e, f ∙ ap (λ (s : Stepped). answerCode (s .answer)) e), ap (λ (s : Stepped). s .answer .buffer) e))
+pub read-left : (s : Shared) (v : Service) (ch : Channel) (w : Words) (n : ℕ) (lent : List ℕ) (c : Changed) (lent′ : List ℕ) (code : ℕ)
+    → ReadBy s v ch w n lent c lent′ → code ≡ replyCode (c .reply) (c .«data_error») (c .«general_error»)
+    → ReadLeft s v ch w n lent (record { service = c .service; channel = c .channel; code = code }) lent′
+read-left s v ch w n lent c lent′ code h f = λ m has ws.
+    let e = h m has ws in
+    ((ap (λ (x : Stepped). x .box) e, f ∙ ap (λ (x : Stepped). answerCode (x .answer)) e), ap (λ (x : Stepped). x .answer .buffer) e)
+
+-- the parts of a write, of any module
+pub write-left : (s : Shared) (v : Service) (ch : Channel) (n : ℕ) (bs : List ℕ) (b : Begun) (number : ℕ) → WriteBy s v ch n bs b → number ≡ numberOf (b .reply)
+    → lengthOf (b .reply) ≡ 0
+    → WriteLeft s v ch n bs (record {
+      shared = b .shared;
+      service = b .service;
+      channel = b .channel;
+      count = b .count;
+      number = number;
+      place = b .place;
+      word = b .word;
+    })
+write-left s v ch n bs b number h f l = (
+  h .0,
+  λ m has.
+      let e = h .1 m has in
+      let after = wholeOf b (slotOf (n / 16)) m in
+      (ap (λ (x : Stepped). x .box) e, rw (f, ← l) (ap (λ (x : Stepped). answerCode (x .answer)) e)),
+)
 
 -- a sample's channel, of any module
 pub sample-done : (x : Request) (s : Shared) (ch : Channel) (i : ℕ) (t : Taken) (code : ℕ) → SampleBy x s ch i t → code ≡ replyCode (t .reply) false false
@@ -39,7 +55,7 @@ pub sample-done : (x : Request) (s : Shared) (ch : Channel) (i : ℕ) (t : Taken
 sample-done x s ch i t code h f = λ m e p. let q = h m e p in (ap (λ (z : Stepped). z .box) q, f ∙ ap (λ (z : Stepped). answerCode (z .answer)) q)
 
 -- and of the caller's
-pub sample-left : (x : Request) (m : Module) (k i : ℕ) (d : ChannelDone) → i ≡ sampleSlot k → SampleLeft x (m .shared) (getD (m .channels) i nothing)
-    (sampleSlot k) d
+pub sample-left : (x : Request) (m : Module) (k i : ℕ) (d : ChannelDone) → i ≡ slotOf k → SampleLeft x (m .shared) (getD (m .channels) i nothing)
+    (slotOf k) d
     → Left (step m x) (withChannels (set (m .channels) i (d .after)) m) (d .code)
 sample-left x m k i d e h = rw e (h m refl (ap (λ (j : ℕ). getD (m .channels) j nothing) (sym e)))

@@ -21,7 +21,7 @@ use Rattle.model.specs.Image.{imageSize, noServiceBits}
 use Rattle.model.specs.Calls.{Request, read, write, level, current, tick, Answer, answerOf, Stepped, step, powerUpAnswer, storeAnswer}
 use Rattle.reads.proofs.Laws.Held.{fits}
 use Rattle.pd3120.specs.declared.samples.Taken.{Taken}
-use Rattle.pd3120.specs.Answers.{SampleBy}
+use Rattle.pd3120.specs.Parts.{SampleBy}
 
 answered : (b : Bool) (r : Reply) (w : Refusal) (n : ℕ) → lengthOf r ≤ n → lengthOf (cond b r (Refused w)) ≤ n
 answered true r w n h = h

@@ -3,7 +3,8 @@ use mathlib.Core.Path.{refl, sym, _∙_, subst}
 use mathlib.Core.List.{List, [], _∷_, map}
 use native.Mathlib.Omega.{arith}
 use lib.ListN.{length-map}
-use mir.Val.{Val}
+use mir.Syntax.{w16, tyInt, tyBool, tcons, tnil}
+use mir.Val.{Val, vint, vbool, vcons, vnil}
 use denote.Shadow.{shadow}
 use denote.Array.{each}
 use denote.Struct.Laws as LL
@@ -29,8 +30,18 @@ use Rattle.pd3120_c.proofs.Done.Laws as Dn′
 use Rattle.pd3120_c.specs.declared.ReadDone.{ReadDone}
 use Rattle.pd3120_c.proofs.ReadDone as Rd
 use Rattle.pd3120_c.proofs.ReadDone.Laws as Rd′
+use Rattle.errors.specs.declared.words.Words.{Words}
+use Rattle.errors.proofs.words.Words as Wd
+use Rattle.errors.proofs.words.Words.Laws as Wd′
+use Rattle.ticks.specs.declared.Begun.{Begun}
+use Rattle.ticks.proofs.Begun as Bg
+use Rattle.ticks.proofs.Begun.Laws as Bg′
+use Rattle.pd3120_c.specs.declared.WriteBegun.{WriteBegun}
+use Rattle.pd3120_c.proofs.WriteBegun as Wb
+use Rattle.pd3120_c.proofs.WriteBegun.Laws as Wb′
 use Rattle.pd3120_c.proofs.Walks.Plain.{Plain, Packed}
 use Rattle.pd3120_c.proofs.Walks.Grouped.{Owned, Grouped, rows, Changes}
+use Rattle.pd3120_c.proofs.Walks.Parts as Parts
 
 abbrev pub shared : Plain
 shared = record {
@@ -121,6 +132,7 @@ box = record {
     (refl, (p, (q, ((map Ch′.lowered cs, ((refl, length-map cs (Ch.the-type .to) ∙ n), owned-each cs r)), tt)))),
   );
   small = tt;
+  few = tt;
   fits = λ k l. omega (arith, l);
 }
 
@@ -171,11 +183,69 @@ changed = record {
   coded = Rd.the-row .coded;
   second = λ d. d .service;
   item = λ d. d .channel;
-  at = λ d. d .at;
   code = λ d. d .code;
   tells = Rd′.lowers .val-is;
   typed = λ 𝓤 H A W x v p. LL.lawful Rd.the-type Rd′.the-laws 𝓤 H A W .typed x _ p .0;
   fields = λ x vs p.
       let f = LL.owed Rd.the-type Rd′.the-laws x vs p in
-      (own-value service (x .service) _ (f .0), (own-value channel (x .channel) _ (f .1 .0), f .1 .1 .1 .0 .1));
+      (own-value service (x .service) _ (f .0), (own-value channel (x .channel) _ (f .1 .0), f .1 .1 .0 .1));
+}
+
+-- ---- what a call works out of the module
+-- what registers show of all channels
+abbrev pub seen : Plain
+seen = record {
+  D = Words;
+  mir = Wd′.mir;
+  written = Wd.the-row .written;
+  reaches = Wd.the-row .reaches;
+  own = Wd.the-row .own;
+  coded = Wd.the-row .coded;
+  val = Wd′.lowered;
+  tells = Wd′.lowers .val-is;
+  typed = λ 𝓤 H A W x p. LL.lawful Wd.the-type Wd′.the-laws 𝓤 H A W .typed x _ p .0;
+  pure = λ x vs. Wd′.the-field-plain (Wd.the-type .to x) vs;
+}
+
+-- what a tick begins with
+abbrev pub tick-begun : Parts.Begun shared service
+tick-begun = record {
+  D = Begun;
+  name = Bg.struct .name;
+  more = tcons tyBool (tcons tyBool (tcons (tyInt w16) tnil));
+  written = Bg.the-row .written;
+  reaches = Bg.the-row .reaches;
+  own = Bg.the-row .own;
+  coded = Bg.the-row .coded;
+  first = λ d. d .shared;
+  second = λ d. d .service;
+  rest = λ d. vcons (vbool (d .«ran_out»)) (vcons (vbool (d .due)) (vcons (vint w16 (d .levels)) vnil));
+  tells = Bg′.lowers .val-is;
+  typed = λ 𝓤 H A W x v p. LL.lawful Bg.the-type Bg′.the-laws 𝓤 H A W .typed x _ p .0;
+  pure = λ x vs. Bg′.the-field-plain (Bg.the-type .to x) vs;
+  fields = λ x vs p. let f = LL.owed Bg.the-type Bg′.the-laws x vs p in (own-value shared (x .shared) _ (f .0), own-value service (x .service) _ (f .1 .0));
+}
+
+-- what a write begins with
+abbrev pub write-begun : Parts.Opened shared service channel
+write-begun = record {
+  D = WriteBegun;
+  name = Wb.struct .name;
+  more = tcons _ (tcons (tyInt w16) tnil);
+  written = Wb.the-row .written;
+  reaches = Wb.the-row .reaches;
+  own = Wb.the-row .own;
+  coded = Wb.the-row .coded;
+  first = λ d. d .shared;
+  second = λ d. d .service;
+  item = λ d. d .channel;
+  count = λ d. d .count;
+  number = λ d. d .number;
+  rest = λ d. _;
+  tells = Wb′.lowers .val-is;
+  typed = λ 𝓤 H A W x v p. LL.lawful Wb.the-type Wb′.the-laws 𝓤 H A W .typed x _ p .0;
+  pure = λ x vs. Wb′.the-field-plain (Wb.the-type .to x) vs;
+  fields = λ x vs p.
+      let f = LL.owed Wb.the-type Wb′.the-laws x vs p in
+      (own-value shared (x .shared) _ (f .0), (own-value service (x .service) _ (f .1 .0), (own-value channel (x .channel) _ (f .1 .1 .0), f .1 .1 .1 .1 .0 .1)));
 }

@@ -47,7 +47,8 @@ use denote.Triple.Walked.{says, Stays, stay-ref, stay-none, walkOf, Walks, ends-
 use denote.Triple.Walked.{AllGo, goes-ref, goes-none}
 use denote.Exit.{yes}
 use Rattle.pd3120_c.proofs.Walks.Plain.{Plain, row, vals, makes, value, lands, Packed, packed, packed-mir, keeping, stating}
-use Rattle.pd3120_c.proofs.Walks.Grouped.{moved, parts, Grouped, rows, item-vals, long, within, first-is, second-is, item-is, new-is}
+use Rattle.pd3120_c.proofs.Walks.Grouped.{moved, parts, Grouped, rows}
+use Rattle.pd3120_c.proofs.Walks.Grouped.{item-vals, long, within, item-is, item-val, item-typed, first-is, second-is, items-are, new-is}
 use Rattle.pd3120_c.proofs.Walks.Types.{count}
 use Rattle.pd3120_c.proofs.Walks.Element.{elem}
 
@@ -148,16 +149,6 @@ module _ (X Y Z : Plain) (S : Grouped X Y Z) (I J : Plain) (R : Packed Z) where
           abbrev c : Z .D
           c = at-item h k
 
-          c-is : Is (row Z) c (vals Z c)
-          c-is = item-is X Y Z S h is k l
-
-          -- the item's machine value
-          c-val : getD (item-vals X Y Z S h is) k (Z .val (S .none)) ≡ Z .val c
-          c-val = List·getD-map (Z .val) (S .items h) k (S .none)
-
-          c-typed : T (hasTy (Z .mir) (getD (item-vals X Y Z S h is) k (Z .val (S .none)))) × WT (getD (item-vals X Y Z S h is) k (Z .val (S .none)))
-          c-typed = subst (λ (v : Val). T (hasTy (Z .mir) v) × WT v) (sym c-val) (Z .typed 𝓤 H A W c c-is)
-
           said : (r : R .D) → ent 𝓤 (ensured 𝓤 H A inner (called P′) tt (S .first h, (c, (i, (j, tt)))) tt r) (fact 𝓤 (P′ (S .first h) c i j r))
           said r = exE 𝓤 _ (λ ws. snd∗ 𝓤 (sem 𝓤 H A (lasts inner tt (S .first h, (c, (i, (j, tt)))) ws)) (fact 𝓤 (P′ (S .first h) c i j r)))
 
@@ -168,7 +159,7 @@ module _ (X Y Z : Plain) (S : Grouped X Y Z) (I J : Plain) (R : Packed Z) where
           goes-call =
               qed W (‵ (S .own h (vals S′ h)) ∷ []) ∵ drop ! $ nothing ! $
               owned ! (row J) (Is (row J)) (makes J 𝓤 H A) j _ j-is $ fjoin ! $ owned ! (row I) (Is (row I)) (makes I 𝓤 H A) i _ i-is $ fjoin ! $
-              owned ! (row Z) (Is (row Z)) (makes Z 𝓤 H A) c _ c-is $ fjoin ! $ owned ! (row X) (Is (row X)) (makes X 𝓤 H A) (S .first h) _
+              owned ! (row Z) (Is (row Z)) (makes Z 𝓤 H A) c _ (item-is Z (S .count) (S .items h) (items-are X Y Z S h is) (S .none) k l) $ fjoin ! $ owned ! (row X) (Is (row X)) (makes X 𝓤 H A) (S .first h) _
               (first-is X Y Z S h is) $ fjoin ! $
               nothing ! $ join ! $ frame ! $ done !
 
@@ -224,10 +215,11 @@ module _ (X Y Z : Plain) (S : Grouped X Y Z) (I J : Plain) (R : Packed Z) where
               assigns ! (bin ! (load ! (from ! (stop !)) (look ! 13 refl)) (load ! (from ! (stop !)) (look ! 15 refl)) tt) (from ! (stop !))
               (init ! 11 refl (tt, tt)) $
               assigns ! (of-opd ! (load ! (from ! (hop ! (look ! 11 refl) (stop !)))
-              (look-in ! 0 (elem ! (item-vals X Y Z S h is) k (Z .val (S .none)) (within X Y Z S h is k (below i k p)) (long X Y Z S h is)
+              (look-in ! 0 (elem ! (item-vals Z (S .count) (S .items h) (items-are X Y Z S h is)) k (Z .val (S .none))
+              (within Z (S .count) (S .items h) (items-are X Y Z S h is) (S .none) k (below i k p)) (long Z (S .count) (S .items h) (items-are X Y Z S h is))
               (sub ! 2 refl (whole !))))))
-              (from ! (stop !)) (init ! 9 refl (c-typed k (below i k p) is)) $
-              rewrite ! 9 (λ (u : Val). ‵ (fat fullShare (Z .mir) l₁₀ 0 u)) (c-val k (below i k p) is) refl $
+              (from ! (stop !)) (init ! 9 refl (item-typed Z (S .count) (S .items h) (items-are X Y Z S h is) (S .none) k (below i k p) 𝓤 H A W)) $
+              rewrite ! 9 (λ (u : Val). ‵ (fat fullShare (Z .mir) l₁₀ 0 u)) (item-val Z (S .count) (S .items h) (items-are X Y Z S h is) (S .none) k (below i k p)) refl $
               move ! (1 ∷ []) $ use1 W (raw (Called P′ .pre (to-call k (below i k p) is))) (goes-call k (below i k p) is) $
               calls-at ! fm (Called P′) known (to-call k (below i k p) is) (and-then ! (load ! (from ! (stop !)) (look ! 17 refl))
               (and-then ! (load ! (from ! (stop !)) (look ! 9 refl)) (and-then ! (load ! (from ! (stop !)) (look ! 25 refl))
@@ -246,7 +238,8 @@ module _ (X Y Z : Plain) (S : Grouped X Y Z) (I J : Plain) (R : Packed Z) where
               assigns ! (bin ! (load ! (from ! (stop !)) (look ! 6 refl)) (load ! (from ! (stop !)) (look ! 14 refl)) tt) (from ! (stop !))
               (init ! 4 refl (tt, tt)) $
               assigns ! (of-opd ! (load ! (from ! (fld ! refl (stop !))) (look-in ! 18 (sub ! 0 refl (whole !))))) (from ! (hop ! (look ! 4 refl) (stop !)))
-              (store-in ! 0 (elem ! (item-vals X Y Z S h is) k (Z .val (S .none)) (within X Y Z S h is k (below i k p)) (long X Y Z S h is) (sub ! 2 refl (whole !)))
+              (store-in ! 0 (elem ! (item-vals Z (S .count) (S .items h) (items-are X Y Z S h is)) k (Z .val (S .none))
+              (within Z (S .count) (S .items h) (items-are X Y Z S h is) (S .none) k (below i k p)) (long Z (S .count) (S .items h) (items-are X Y Z S h is)) (sub ! 2 refl (whole !)))
               (Z .typed 𝓤 H A W (R .after r) (R .fields r (w′ ∷ []) isr .0))) $
               assigns ! (of-opd ! (load ! (from ! (fld ! refl (stop !))) (look-in ! 18 (sub ! 1 refl (whole !))))) (from ! (stop !))
               (init ! 28 refl (tt, record { fits = R .fields r (w′ ∷ []) isr .1 })) $

@@ -4,7 +4,7 @@ use mathlib.Core.List.{List, [], _∷_}
 use Prim.Native.Nat.{ℕ}
 use lib.Ieee.{Float, binary32}
 use lib.ListN.{length}
-use mir.Syntax.{Ty, Width, w8, w16, w64, named, imm, tyInt, tyBool, tyFloat, tyRef, wrote}
+use mir.Syntax.{Ty, Width, w8, w16, w32, w64, named, imm, tyInt, tyBool, tyFloat, tyRef, wrote}
 use mir.Val.{vbool, vint, vfloat}
 use base.Stored.{codedList}
 use denote.Builtin.{u8, f32, bool}
@@ -33,6 +33,9 @@ byte = number w8
 
 abbrev pub word : Plain
 word = number w16
+
+abbrev pub code : Plain
+code = number w32
 
 abbrev pub count : Plain
 count = number w64

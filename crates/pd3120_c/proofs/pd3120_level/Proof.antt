@@ -9,7 +9,7 @@ use Rattle.model.specs.declared.Channel.{Channel}
 use Rattle.model.specs.declared.Module.{Module}
 use Rattle.model.specs.declared.Shared.{Shared}
 use Rattle.model.specs.Calls.{level, step}
-use Rattle.pd3120.specs.Answers.{sampleSlot}
+use Rattle.registers.specs.Places.{slotOf}
 use Rattle.pd3120.proofs.samples.slot.Symbol as slot-def
 use Rattle.pd3120.proofs.samples.slot.Symbol.{name as #slot}
 use Rattle.pd3120.proofs.samples.slot.Met as slot-thm
@@ -28,10 +28,10 @@ use Rattle.pd3120_c.proofs.pd3120_level.Statement as stated
 use Rattle.pd3120_c.proofs.pd3120_level.Code as code
 
 abbrev Finds : ℕ → ℕ → Type 0
-Finds k i = (i ≡ sampleSlot k) × (i < 16)
+Finds k i = (i ≡ slotOf k) × (i < 16)
 
 abbrev Gives : Shared → Channel → ℕ → Bool → ChannelDone → Type 0
-Gives s ch k x d = SampleLeft (level k x) s ch (sampleSlot k) d
+Gives s ch k x d = SampleLeft (level k x) s ch (slotOf k) d
 
 abbrev Leaves : Module → ℕ → Bool → Module → ℕ → Type 0
 Leaves m k x m′ code = Left (step m (level k x)) m′ code

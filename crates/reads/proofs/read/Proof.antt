@@ -6,7 +6,9 @@ use lib.ListN.{length, getD, take}
 use borrow.Author.Needs.{needs}
 use Rattle.model.specs.declared.Reply.{Reply}
 use Rattle.model.specs.State.{nothing}
+use Rattle.model.specs.Registers.{Place}
 use Rattle.model.specs.Reads.{bytesRead}
+use Rattle.model.specs.Questions.{readReply}
 use Rattle.model.specs.Calls.{overwritten, readLeaves, readFills}
 use Rattle.registers.specs.Places.{placed, slotOf, OfChannel}
 use Rattle.registers.proofs.Laws.{slot-of, slot-fits}
@@ -70,12 +72,15 @@ returns c =
           (c .before .service-left .ensures ∙ service-left p m ∙ ap (λ (r : Reply). readLeaves r p m .service) (sym d))
           (c .channel-left .ensures ∙ ap (channelLeft p) (sym own) ∙ channel-left p i m o below
           ∙ ap (λ (r : Reply). getD (readLeaves r p m .channels) i nothing) (sym d)),
-      λ cs n w own.
-          let m = boxOf (s .s) (s .v) cs in
-          let b = c .before .before .before .before .before .before .place-bytes .ensures .0 i o cs n w own in
-          buffered m (s .swno) lent p (a .result) e (a .ensures) _
-          (c .before .before .before .before .copy-out .ensures ∙ ap (λ (t : RegisterBytes). overwritten (take (t .len) (t .bytes)) lent) b
-          ∙ ap (λ (bs : List ℕ). overwritten bs lent) (held-bytes (bytesRead p m)) ∙ ap (λ (r : Reply). readFills r p m lent) (sym d)),
+      (
+        λ cs n w own.
+            let m = boxOf (s .s) (s .v) cs in
+            let b = c .before .before .before .before .before .before .place-bytes .ensures .0 i o cs n w own in
+            buffered m (s .swno) lent p (a .result) e (a .ensures) _
+            (c .before .before .before .before .copy-out .ensures ∙ ap (λ (t : RegisterBytes). overwritten (take (t .len) (t .bytes)) lent) b
+            ∙ ap (λ (bs : List ℕ). overwritten bs lent) (held-bytes (bytesRead p m)) ∙ ap (λ (r : Reply). readFills r p m lent) (sym d)),
+        a .ensures ∙ ap (λ (q : Place). readReply (s .swno) q lent) e,
+      ),
     )
 
 same-length-2 : tie.Need-same-length-2
@@ -96,9 +101,12 @@ returns-2 c =
           answered m (s .swno) lent p (a .result) e (a .ensures) (s .v) (s .ch)
           (ap (λ (r : Reply). readLeaves r p m .service) (sym d))
           (sym own ∙ ap (λ (r : Reply). getD (readLeaves r p m .channels) i nothing) (sym d)),
-      λ cs n w own.
-          let m = boxOf (s .s) (s .v) cs in
-          buffered m (s .swno) lent p (a .result) e (a .ensures) lent (ap (λ (r : Reply). readFills r p m lent) (sym d)),
+      (
+        λ cs n w own.
+            let m = boxOf (s .s) (s .v) cs in
+            buffered m (s .swno) lent p (a .result) e (a .ensures) lent (ap (λ (r : Reply). readFills r p m lent) (sym d)),
+        a .ensures ∙ ap (λ (q : Place). readReply (s .swno) q lent) e,
+      ),
     )
 
 pub read-spec : {M : Type 1} → statement M
