@@ -1,17 +1,18 @@
 -- No answer is longer than an image: a reply's length is at most that of what would be done, whatever is asked first. Assumes nothing.
-use mathlib.Core.Path.{_≡_, refl, sym, ap, subst}
+use mathlib.Core.Path.{_≡_, refl, sym, ap, subst, _∙_}
 use mathlib.Core.Bool.{Bool, true, false, cond}
 use mathlib.Core.List.{List, [], _∷_}
-use Prim.Native.Nat.{ℕ, _≤_, _<_}
+use Prim.Native.Nat.{ℕ, _/_, _≤_, _<_}
 use native.Mathlib.Omega.{arith}
 use lib.IntN.{pos}
-use lib.ListN.{replicate, getD-replicate}
+use lib.ListN.{replicate, length-replicate, getD-replicate}
 use Rattle.counts.specs.Counts.{timer}
 use Rattle.model.specs.declared.Channel.{Channel}
 use Rattle.model.specs.declared.Module.{Module}
 use Rattle.model.specs.declared.Refusal.{Refusal}
 use Rattle.model.specs.declared.Reply.{Reply}
 use Rattle.model.specs.declared.Reply.the-variants.{Done, Refused}
+use Rattle.model.specs.declared.Service.{Service}
 use Rattle.model.specs.declared.Shared.{Shared}
 use Rattle.model.specs.State.{writeEnable, serviceOf, nothing}
 use Rattle.model.specs.Registers.{Place, place, size}
@@ -21,7 +22,10 @@ use Rattle.model.specs.Image.{imageSize, noServiceBits}
 use Rattle.model.specs.Calls.{Request, read, write, level, current, tick, Answer, answerOf, Stepped, step, powerUpAnswer, storeAnswer}
 use Rattle.reads.proofs.Laws.Held.{fits}
 use Rattle.pd3120.specs.declared.samples.Taken.{Taken}
-use Rattle.pd3120.specs.Parts.{SampleBy}
+use Rattle.registers.specs.Places.{slotOf}
+use Rattle.registers.proofs.Laws.{slot-fits}
+use Rattle.writes.specs.declared.Begun.{Begun}
+use Rattle.pd3120.specs.Parts.{Has, WriteBy, SampleBy}
 
 answered : (b : Bool) (r : Reply) (w : Refusal) (n : ℕ) → lengthOf r ≤ n → lengthOf (cond b r (Refused w)) ≤ n
 answered true r w n h = h
@@ -45,19 +49,36 @@ step-length m (level k b) = within 0 _ (asked-length (levelQuestions k) 0) (omeg
 step-length m (current k x) = within 0 _ (asked-length (currentQuestions k x) 0) (omega arith)
 step-length m tick = omega arith
 
+pub read-length : (n : ℕ) (lent : List ℕ) (r : Reply) → r ≡ readReply n (place n) lent → lengthOf r ≤ imageSize
+unfolding readReply
+read-length n lent r e =
+    let p = place n in rw e (within (size p) _ (asked-length (readQuestions n p lent) (size p)) (register-length p))
+
 -- ---- of the replies that the library's calls give
 pub reply-length : (m : Module) (x : Request) (r : Reply) (buf : List ℕ) (d g : Bool) → answerOf r buf d g ≡ step m x .answer → lengthOf r ≤ imageSize
 reply-length m x r buf d g e = subst (λ (n : ℕ). n ≤ imageSize) (ap (λ (a : Answer). a .length) (sym e)) (step-length m x)
 
--- a sample's contract speaks of every module that has the channel: here is one
-someModule : Shared → Channel → Module
-someModule s ch = record { shared = s; service = serviceOf (timer (pos 0)) noServiceBits noServiceBits; channels = replicate 16 ch }
+-- the contracts of samples and writes speak of every module that has the parts: here is one
+someModule : Shared → Service → Channel → Module
+someModule s v ch = record { shared = s; service = v; channels = replicate 16 ch }
 
 pub sample-length : (x : Request) (s : Shared) (ch : Channel) (i : ℕ) (t : Taken) → i < 16 → SampleBy x s ch i t → lengthOf (t .reply) ≤ imageSize
 unfolding someModule
 sample-length x s ch i t l h =
-    let m = someModule s ch in
+    let m = someModule s (serviceOf (timer (pos 0)) noServiceBits noServiceBits) ch in
     reply-length m x (t .reply) [] false false (ap (λ (z : Stepped). z .answer) (h m refl (getD-replicate 16 i ch nothing l)))
+
+-- a write answers no length
+none : (n : ℕ) → n ≤ 0 → n ≡ 0
+none n l = omega (arith, l)
+
+pub write-length : (s : Shared) (v : Service) (ch : Channel) (n : ℕ) (bs : List ℕ) (b : Begun) → WriteBy s v ch n bs b → lengthOf (b .reply) ≡ 0
+unfolding someModule step writeReply
+write-length s v ch n bs b h =
+    let m = someModule s v ch in
+    let has : Has s v ch (slotOf (n / 16)) m =
+    record { shared-is = refl; service-is = refl; sixteen = length-replicate 16 ch; channel-is = getD-replicate 16 (slotOf (n / 16)) ch nothing (slot-fits (n / 16)) } in
+    ap (λ (z : Stepped). z .answer .length) (h .1 m has) ∙ none _ (asked-length (writeQuestions (writeEnable s) n (place n) bs) 0)
 
 pub power-up-length : (img : List ℕ) (r : Reply) → answerOf r [] false false ≡ powerUpAnswer img → lengthOf r ≤ imageSize
 unfolding powerUpAnswer powerUpReply

@@ -33,6 +33,7 @@ use Rattle.pd3120_c.proofs.ReadDone.Laws as Rd′
 use Rattle.errors.specs.declared.words.Words.{Words}
 use Rattle.errors.proofs.words.Words as Wd
 use Rattle.errors.proofs.words.Words.Laws as Wd′
+use Rattle.registers.proofs.Place.Laws as Pl′
 use Rattle.ticks.specs.declared.Begun.{Begun}
 use Rattle.ticks.proofs.Begun as Bg
 use Rattle.ticks.proofs.Begun.Laws as Bg′
@@ -231,7 +232,7 @@ abbrev pub write-begun : Parts.Opened shared service channel
 write-begun = record {
   D = WriteBegun;
   name = Wb.struct .name;
-  more = tcons _ (tcons (tyInt w16) tnil);
+  more = tcons Pl′.mir (tcons (tyInt w16) tnil);
   written = Wb.the-row .written;
   reaches = Wb.the-row .reaches;
   own = Wb.the-row .own;
@@ -241,7 +242,7 @@ write-begun = record {
   item = λ d. d .channel;
   count = λ d. d .count;
   number = λ d. d .number;
-  rest = λ d. _;
+  rest = λ d. vcons (Pl′.lowered (d .place)) (vcons (vint w16 (d .word)) vnil);
   tells = Wb′.lowers .val-is;
   typed = λ 𝓤 H A W x v p. LL.lawful Wb.the-type Wb′.the-laws 𝓤 H A W .typed x _ p .0;
   pure = λ x vs. Wb′.the-field-plain (Wb.the-type .to x) vs;

@@ -152,7 +152,7 @@ module _ (X Y Z : Plain) (S : Grouped X Y Z) (N I : Plain) (R : Changes Y Z) whe
     module _ (W : Given 𝓤 H A) (slot view key : Name) (P₀ : I .D → ℕ → Type 0) (P₁ : S .D → N .D → Type 0)
         (P₂ : X .D → Y .D → Z .D → N .D → I .D → List ℕ → R .D → List ℕ → Type 0) (Q : S .D → I .D → List ℕ → S .D → ℕ → List ℕ → Type 0)
         (below : (i : I .D) (k : ℕ) → P₀ i k → k < S .count)
-        (follows : (h : S .D) (i : I .D) (ys : List ℕ) (k : ℕ) (v : N .D) (r : R .D) (zs : List ℕ) → P₀ i k → P₁ h v
+        (follows : (h : S .D) (i : I .D) (ys : List ℕ) (k : ℕ) (v : N .D) (r : R .D) (zs : List ℕ) → length (S .items h) ≡ S .count → P₀ i k → P₁ h v
         → P₂ (S .first h) (S .second h) (at-item h k) v i ys r zs → Q h i ys (with-parts h k r) (R .code r) zs) where
       module _ (κ κ′ : Lft) (q q′ : Share) (b o : ℕ) (γ : GName) (h : S .D) (i : I .D) (y : RefT (List ℕ)) (i-is : Is (row I) i (vals I i)) where
         abbrev s : Val
@@ -332,7 +332,7 @@ module _ (X Y Z : Plain) (S : Grouped X Y Z) (N I : Plain) (R : Changes Y Z) whe
               move ! (17 ∷ 18 ∷ []) $ free1 ! $ move ! (15 ∷ 16 ∷ []) $ free1 ! $ move ! (13 ∷ 14 ∷ []) $ free1 ! $ move ! (11 ∷ 12 ∷ []) $ free1 ! $
               move ! (9 ∷ 10 ∷ []) $ free1 ! $ move ! (7 ∷ 8 ∷ []) $ free1 ! $
               free0 ! $
-              keep ! (0 ∷ 1 ∷ 2 ∷ 4 ∷ 5 ∷ []) $ by ! (exits k r (zs .1 .1 .1 .1 .1 .0) (follows h i (y .now) k v r (zs .1 .1 .1 .1 .1 .0) p₀ p₁ e) l
+              keep ! (0 ∷ 1 ∷ 2 ∷ 4 ∷ 5 ∷ []) $ by ! (exits k r (zs .1 .1 .1 .1 .1 .0) (follows h i (y .now) k v r (zs .1 .1 .1 .1 .1 .0) (items-are X Y Z S h is .1) p₀ p₁ e) l
               (R .fields r (w ∷ []) isr .1 .1))))))))))))))))))))))))))))))))))))
 
       all-walk : (C : Calls 𝓤 H) (Λ : Loops 𝓤 H) → FmC 𝓤 H (W .laws) C → Triple 𝓤 (C slot) (Found P₀) → Triple 𝓤 (C view) (Seen P₁)

@@ -142,7 +142,7 @@ module _ (X Y Z : Plain) (S : Grouped X Y Z) (B : Begun X Y) where
       abbrev pub left-by : S .D → B .D → S .D
       left-by h r = S .make (B .first r) (B .second r) (through r (S .count) (S .items h))
 
-      module _ (follows : (h : S .D) (r : B .D) → P h r → Q h (left-by h r)) (κ : Lft) (q : Share) (b o : ℕ) (γ : GName) (h : S .D) where
+      module _ (follows : (h : S .D) (r : B .D) → length (S .items h) ≡ S .count → P h r → Q h (left-by h r)) (κ : Lft) (q : Share) (b o : ℕ) (γ : GName) (h : S .D) where
         abbrev x : RefT (S .D) × Unit {0}
         x = (record { ptr = (b, o); name = γ; now = h }, tt)
 
@@ -165,17 +165,18 @@ module _ (X Y Z : Plain) (S : Grouped X Y Z) (B : Begun X Y) where
         goes-start : ent 𝓤 (sem 𝓤 H A (S .own h (vals S′ h))) (Started P .pre to-start)
         goes-start = qed W (‵ (S .own h (vals S′ h)) ∷ []) ∵ nothing ! $ move ! (1 ∷ 0 ∷ []) $ fjoin ! $ nothing ! $ join ! $ frame ! $ done !
 
-        exits : (r : B .D) → P h r
+        exits : (r : B .D) → length (S .items h) ≡ S .count → P h r
             → ent 𝓤 (sep 𝓤 (A .obs γ (S .coded .code (left-by h r))) (sep 𝓤 (A .bor κ Whole) (A .lft κ q))) (Post vunit)
-        exits r e =
+        exits r l e =
             qed W (‵ (fobs γ (S .coded .code (left-by h r))) ∷ ‵ (fbor κ Whole) ∷ ‵ (flft κ q) ∷ []) ∵
             suffices ! _ (ends-at 𝓤 H A outer stayed (exported Q) W (((κ, tt), (q, tt), tt, x, at), tt) vunit tt (left-by h r, tt) (tt, tt)) $
-            says ! (follows h r e) $ nothing ! $ move ! (3 ∷ 0 ∷ []) $ join ! $ frame ! $
+            says ! (follows h r l e) $ nothing ! $ move ! (3 ∷ 0 ∷ []) $ join ! $ frame ! $
             feqI ! (List Val) (vptr b o ∷ []) (vptr b o ∷ []) refl $ fjoin3 ! $ nothing ! $ move ! (1 ∷ 0 ∷ []) $ fjoin ! $
             feqI ! (List Val) (vunit ∷ []) (vunit ∷ []) refl $ move ! (1 ∷ 0 ∷ []) $ done !
 
         -- ---- the loop, with what was begun in r
         module _ (𝓣 : Tables 𝓤 H) (known : Triple 𝓤 (𝓣 .C key) (Called g)) (r : B .D) (p : P h r) (r-is : Is (row B′) r (vals B′ r))
+            (counted : length (S .items h) ≡ S .count)
             (l₀ l₁ l₂ l₃ l₄ l₅ l₆ l₇ l₈ l₉ l₁₀ l₁₁ l₁₂ l₁₃ : ℕ) where
           abbrev C : Calls 𝓤 H
           C = 𝓣 .C
@@ -297,7 +298,7 @@ module _ (X Y Z : Plain) (S : Grouped X Y Z) (B : Begun X Y) where
               move ! (3 ∷ 9 ∷ []) $ free1 ! $ move ! (3 ∷ 8 ∷ []) $ free1 ! $ move ! (3 ∷ 7 ∷ []) $ free1 ! $ move ! (3 ∷ 6 ∷ []) $ free1 ! $
               move ! (3 ∷ 5 ∷ []) $ free1 ! $ move ! (3 ∷ 4 ∷ []) $ free1 ! $ free0 ! $
               rewrite ! 0 (λ (ds : List (Z .D)). ‵ (fobs γ (S .coded .code (S .make (B .first r) (B .second r) ds)))) all refl $
-              keep ! (0 ∷ 1 ∷ 2 ∷ []) $ by ! (exits r p)
+              keep ! (0 ∷ 1 ∷ 2 ∷ []) $ by ! (exits r counted p)
 
           loop-walk : Items (S .items h) → ent 𝓤 (⋆ 𝓤 H A (At 0 (S .items h))) (Wp 𝓤 H C Λ En (loop (turn key)) Left)
           loop-walk = loops 𝓤 H A W 𝓣 En (turn key) Left At Items (λ _. g r) (S .none) (S .count) (S .items h) (λ k cs l good. more k cs l good) ends
@@ -338,9 +339,9 @@ module _ (X Y Z : Plain) (S : Grouped X Y Z) (B : Begun X Y) where
               forget ! 22 refl $
               keep ! (0 ∷ 24 ∷ 20 ∷ 18 ∷ 16 ∷ 14 ∷ 12 ∷ 10 ∷ 8 ∷ 6 ∷ 4 ∷ 28 ∷ 26 ∷ 30 ∷ 22 ∷ 1 ∷ 2 ∷ 3 ∷ 31 ∷ 29 ∷ 27 ∷ 25 ∷ 23 ∷ 21 ∷ 19 ∷ 17 ∷ 15 ∷ 13 ∷ 11 ∷ 9
               ∷ 7 ∷ 5 ∷ []) $
-              by ! (loop-walk 𝓣 known r e (related B′ r w isr) l₀ l₁ l₂ l₃ l₄ l₅ l₆ l₇ l₈ l₉ l₁₀ l₁₁ l₁₂ l₁₃ (items-are X Y Z S h is))))))))))))))))))))))
+              by ! (loop-walk 𝓣 known r e (related B′ r w isr) (items-are X Y Z S h is .1) l₀ l₁ l₂ l₃ l₄ l₅ l₆ l₇ l₈ l₉ l₁₀ l₁₁ l₁₂ l₁₃ (items-are X Y Z S h is))))))))))))))))))))))
 
-      module _ (follows : (h : S .D) (r : B .D) → P h r → Q h (left-by h r)) where
+      module _ (follows : (h : S .D) (r : B .D) → length (S .items h) ≡ S .count → P h r → Q h (left-by h r)) where
         all-walk : (𝓣 : Tables 𝓤 H) → Triple 𝓤 (𝓣 .C start) (Started P) → Triple 𝓤 (𝓣 .C key) (Called g)
             → Walks 𝓤 H A outer stayed (WpFn 𝓤 H (𝓣 .C) (𝓣 .Λ) (fn-of start key)) (exported Q)
         all-walk 𝓣 starts known = walked 𝓤 H A outer stayed (exported Q) (WpFn 𝓤 H (𝓣 .C) (𝓣 .Λ) (fn-of start key))

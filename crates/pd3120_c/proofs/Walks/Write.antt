@@ -193,7 +193,7 @@ module _ {n : ℕ} (X Y Z : Plain) (S : Grouped X Y Z) (I : Plain) (J : Input n)
 
       module _ (below : (i : I .D) (a : ℕ) → P₀ i a → a < S .count)
           (few : (s : X .D) (v : Y .D) (c : Z .D) (i : I .D) (j : J .D) (r : B .D) → P₁ s v c i j r → B .count r ≤ S .count)
-          (follows : (h : S .D) (i : I .D) (j : J .D) (a : ℕ) (r : B .D) (u : ℕ) → P₀ i a → P₁ (S .first h) (S .second h) (at-item h a) i j r
+          (follows : (h : S .D) (i : I .D) (j : J .D) (a : ℕ) (r : B .D) (u : ℕ) → length (S .items h) ≡ S .count → P₀ i a → P₁ (S .first h) (S .second h) (at-item h a) i j r
           → P₂ (left-by h a r) (B .number r) u → Q h i j (left-by h a r) u)
           (κ : Lft) (κs : Lfts n) (q : Share) (qs : Shares n) (b o : ℕ) (γ : GName) (h : S .D) (i : I .D) (j : J .D)
           (i-is : Is (row I) i (vals I i)) (j-is : shadow (J .own κs j (J .val j ∷ []))) where
@@ -240,6 +240,7 @@ module _ {n : ℕ} (X Y Z : Plain) (S : Grouped X Y Z) (I : Plain) (J : Input n)
         -- ---- the loop, with what was begun in r
         module _ (𝓣 : Tables 𝓤 H) (known : Triple 𝓤 (𝓣 .C key) (Called g)) (finishes : Triple 𝓤 (𝓣 .C finish) (Finished P₂)) (a : ℕ) (p₀ : P₀ i a) (r : B .D)
             (p₁ : P₁ (S .first h) (S .second h) (at-item h a) i j r) (r-is : Is (row B′) r (vals B′ r))
+            (counted : length (S .items h) ≡ S .count)
             (l₀ l₁ l₂ l₃ l₄ l₅ l₆ l₇ l₈ l₉ l₁₀ l₁₁ l₁₂ l₁₃ l₁₄ l₁₅ l₁₆ l₁₇ l₁₈ l₁₉ l₂₀ l₂₁ l₂₂ l₂₃ l₂₄ : ℕ) where
           abbrev C : Calls 𝓤 H
           C = 𝓣 .C
@@ -386,7 +387,7 @@ module _ {n : ℕ} (X Y Z : Plain) (S : Grouped X Y Z) (I : Plain) (J : Input n)
                 owned ! (row S′) (Is (row S′)) (makes S′ 𝓤 H A) h′ _ h′-is $ fjoin ! $ nothing ! $ join ! $ frame ! $ done !
 
             so : (u : ℕ) → P₂ h′ (B .number r) u → Q h i j (left-by h a r) u
-            so u e = follows h i j a r u p₀ p₁ (subst (λ (ds : List (Z .D)). P₂ (S .make (B .first r) (B .second r) ds) (B .number r) u) all e)
+            so u e = follows h i j a r u counted p₀ p₁ (subst (λ (ds : List (Z .D)). P₂ (S .make (B .first r) (B .second r) ds) (B .number r) u) all e)
 
             ends : (N : SProp 𝓤) → ent 𝓤 (⋆ 𝓤 H A (At n′ cs)) (Wp 𝓤 H C Λ En (turn key) (afterTurn 𝓤 H N Left))
             unfolding afterTurn
@@ -525,12 +526,12 @@ module _ {n : ℕ} (X Y Z : Plain) (S : Grouped X Y Z) (I : Plain) (J : Input n)
               forget ! 49 refl $ forget ! 47 refl $ forget ! 45 refl $ forget ! 39 refl $ forget ! 37 refl $ forget ! 35 refl $ forget ! 33 refl $ forget ! 31 refl $ forget ! 29 refl $ forget ! 27 refl $ forget ! 25 refl $
               keep ! (0 ∷ 41 ∷ 23 ∷ 21 ∷ 19 ∷ 17 ∷ 15 ∷ 13 ∷ 11 ∷ 9 ∷ 7 ∷ 51 ∷ 43 ∷ 53 ∷ 5 ∷ 49 ∷ 47 ∷ 45 ∷ 39 ∷ 37 ∷ 35 ∷ 33 ∷ 31 ∷ 29 ∷ 27 ∷ 25 ∷ 1 ∷ 2 ∷ 3 ∷ 4 ∷ 55 ∷ 54 ∷ 52 ∷ 50
               ∷ 48 ∷ 46 ∷ 44 ∷ 42 ∷ 40 ∷ 38 ∷ 36 ∷ 34 ∷ 32 ∷ 30 ∷ 28 ∷ 26 ∷ 24 ∷ 22 ∷ 20 ∷ 18 ∷ 16 ∷ 14 ∷ 12 ∷ 10 ∷ 8 ∷ 6 ∷ []) $
-              by ! (loop-walk 𝓣 known finishes a p₀ r p₁ (related B′ r w′ isr) l₀ l₁ l₂ l₃ l₄ l₅ l₆ l₇ l₈ l₉ l₁₀ l₁₁ l₁₂ l₁₃ l₁₄ l₁₅ l₁₆ l₁₇ l₁₈ l₁₉ l₂₀ l₂₁ l₂₂ l₂₃ l₂₄
+              by ! (loop-walk 𝓣 known finishes a p₀ r p₁ (related B′ r w′ isr) (items-are X Y Z S h is .1) l₀ l₁ l₂ l₃ l₄ l₅ l₆ l₇ l₈ l₉ l₁₀ l₁₁ l₁₂ l₁₃ l₁₄ l₁₅ l₁₆ l₁₇ l₁₈ l₁₉ l₂₀ l₂₁ l₂₂ l₂₃ l₂₄
               (good-set Z (S .count) (S .items h) a (B .item r) (items-are X Y Z S h is) (B .fields r _ isr .1 .1 .0))))))))))))))))))))))))))))))))))))))
 
       module _ (below : (i : I .D) (a : ℕ) → P₀ i a → a < S .count)
           (few : (s : X .D) (v : Y .D) (c : Z .D) (i : I .D) (j : J .D) (r : B .D) → P₁ s v c i j r → B .count r ≤ S .count)
-          (follows : (h : S .D) (i : I .D) (j : J .D) (a : ℕ) (r : B .D) (u : ℕ) → P₀ i a → P₁ (S .first h) (S .second h) (at-item h a) i j r
+          (follows : (h : S .D) (i : I .D) (j : J .D) (a : ℕ) (r : B .D) (u : ℕ) → length (S .items h) ≡ S .count → P₀ i a → P₁ (S .first h) (S .second h) (at-item h a) i j r
           → P₂ (left-by h a r) (B .number r) u → Q h i j (left-by h a r) u) where
         all-walk : (𝓣 : Tables 𝓤 H) → Triple 𝓤 (𝓣 .C slot) (Found P₀) → Triple 𝓤 (𝓣 .C start) (Started P₁) → Triple 𝓤 (𝓣 .C key) (Called g)
             → Triple 𝓤 (𝓣 .C finish) (Finished P₂) → Walks 𝓤 H A outer stayed (WpFn 𝓤 H (𝓣 .C) (𝓣 .Λ) (fn-of slot start key finish)) (exported Q)

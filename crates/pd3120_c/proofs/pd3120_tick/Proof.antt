@@ -1,0 +1,51 @@
+-- `pd3120_tick` meets its contract, by the walk of `Walks/Tick.antt`. Assumes nothing.
+use contract.Running.{givenOf, tables, tablesOf}
+use denote.Triple.Spec.{tripleOf}
+use denote.Triple.Table.{entered, cited}
+use mathlib.Core.Path.{_≡_, ap, _∙_}
+use mathlib.Core.List.{List}
+use lib.ListN.{length}
+use Rattle.model.specs.declared.Channel.{Channel}
+use Rattle.model.specs.declared.Module.{Module}
+use Rattle.model.specs.Calls.{step}
+use Rattle.ticks.specs.declared.Begun.{Begun}
+use Rattle.ticks.specs.Begun.{begunOf, tickedBy}
+use Rattle.ticks.proofs.Whole.{whole}
+use Rattle.pd3120_c.specs.Codes.{Ticked}
+use Rattle.pd3120_c.proofs.Laws.Turns.{all-turned}
+use Rattle.pd3120_c.proofs.Walks.Box.{shared, service, channel, box, tick-begun}
+use Rattle.pd3120_c.proofs.Walks.Tick.{Started, Called, meets}
+use Rattle.pd3120_c.proofs.Walks.Turns.{turned}
+use Rattle.ticks.proofs.begin.Symbol as begin-def
+use Rattle.ticks.proofs.begin.Symbol.{name as #begin}
+use Rattle.ticks.proofs.begin.Met as begin-thm
+use Rattle.ticks.proofs.tick_one.Symbol as turn-def
+use Rattle.ticks.proofs.tick_one.Symbol.{name as #turn}
+use Rattle.ticks.proofs.tick_one.Met as turn-thm
+use Rattle.pd3120_c.proofs.pd3120_tick.Key.{name as #export}
+use Rattle.pd3120_c.proofs.pd3120_tick as exported
+use Rattle.pd3120_c.proofs.pd3120_tick.Statement as stated
+use Rattle.pd3120_c.proofs.pd3120_tick.Code as code
+
+abbrev Begins : Module → Begun → Type 0
+Begins m b = b ≡ begunOf m
+
+-- the module that the walk leaves
+abbrev left : Begun → List Channel → Module
+left b cs = record { shared = b .shared; service = b .service; channels = cs }
+
+follows : (m : Module) (b : Begun) → length (m .channels) ≡ 16 → Begins m b → Ticked m (left b (turned (λ k. tickedBy b) (box .none) 16 (m .channels)))
+unfolding step
+follows m b l e = ap (left b) (all-turned (tickedBy b) (m .channels) l) ∙ rw e (whole m l)
+
+pub pd3120-tick-spec : {M : Type 1} → stated.statement M
+unfolding code.routine tablesOf
+pd3120-tick-spec 𝓤 H 𝓜 𝓖 𝓡 =
+    entered 𝓤 H (tripleOf 𝓤 H (𝓖 .A) exported.signature (exported.spec 𝓤 H (𝓖 .A) (𝓜 .mem) (𝓡 .run)))
+    (tables 𝓤 H 𝓜 𝓡 code.env .C) (tables 𝓤 H 𝓜 𝓡 code.env .Λ) #export code.function (code.unfolded 𝓤 H 𝓜 𝓡)
+    (meets shared service channel box tick-begun 𝓤 H (𝓖 .A) (givenOf 𝓤 H 𝓜 𝓖) #begin #turn Begins tickedBy Ticked follows
+    (tablesOf 𝓤 H 𝓜 (tables 𝓤 H 𝓜 𝓡 code.env))
+    (cited 𝓤 H (Started shared service channel box tick-begun 𝓤 H (𝓖 .A) Begins) 𝓜 𝓡 code.env #begin begin-def.routine code.calls-ticks·begin
+    (begin-thm.met 𝓤 H 𝓜 𝓖 𝓡))
+    (cited 𝓤 H (Called shared service channel box tick-begun 𝓤 H (𝓖 .A) tickedBy) 𝓜 𝓡 code.env #turn turn-def.routine code.calls-ticks·tick-one
+    (turn-thm.met 𝓤 H 𝓜 𝓖 𝓡)))
