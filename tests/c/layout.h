@@ -35,19 +35,20 @@ struct errors {
 };
 
 struct kept {
+    uint8_t user[4];
     int32_t counter;
     uint32_t operating; /* OperatingCount */
-    uint8_t user[4];
 };
 
 struct channel {
     struct config config;
-    struct flags flags;
-    int32_t out_timer, fb_timer, out_preset, fb_preset; /* TimerCount */
-    struct currents currents;
+    int32_t out_timer, fb_timer, out_preset; /* TimerCount */
     struct errors errors;
     int32_t counter;
     uint32_t operating; /* OperatingCount */
+    int32_t fb_preset; /* TimerCount */
+    struct currents currents;
+    struct flags flags;
     uint8_t user[4], reals[8], maintenance[4];
     struct kept kept;
 };

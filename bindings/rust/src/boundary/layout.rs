@@ -39,23 +39,23 @@ struct Errors {
 
 #[repr(C)]
 struct Kept {
+    user: [u8; 4],
     counter: i32,
     operating: u32,
-    user: [u8; 4],
 }
 
 #[repr(C)]
 struct Channel {
     config: Config,
-    flags: Flags,
     out_timer: i32,
     fb_timer: i32,
     out_preset: i32,
-    fb_preset: i32,
-    currents: Currents,
     errors: Errors,
     counter: i32,
     operating: u32,
+    fb_preset: i32,
+    currents: Currents,
+    flags: Flags,
     user: [u8; 4],
     reals: [u8; 8],
     maintenance: [u8; 4],

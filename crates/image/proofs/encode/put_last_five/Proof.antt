@@ -59,7 +59,7 @@ returns c =
     let five : length ((ch .reals ++ bc) ++ de) ≡ 24 = length-append (ch .reals ++ bc) de ∙ omega (arith, three, third .1) in
     let signed : counter .result ≡ signedBytes 4 (ch .kept .counter) = counter .ensures ∙ ap (signedBytes 4)
     (toZ-ofZ w32 (ch .kept .counter)
-    (record { sfits = c .before .before .before .before .before .before .before .before .before .before .before .before .before .before .before .before .struct-told .given .0 .1 })) in
+    (record { sfits = c .before .before .before .before .before .before .before .before .before .before .before .before .before .before .before .before .struct-told .given .1 .0 .1 })) in
     let flat : (ch .reals ++ bc) ++ de
     ≡ ch .reals ++ (ch .maintenance ++ (ch .kept .user ++ (signedBytes 4 (ch .kept .counter) ++ bytesOf 4 (ch .kept .operating .0))))
     = rw (signed, operating .ensures) (simp append-assoc) in

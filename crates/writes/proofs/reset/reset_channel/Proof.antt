@@ -14,7 +14,7 @@ returns : tie.Need-returns
 unfolding restored ofInt ofBits
 returns c =
     let ch = c .before .before .before .before .before .before .args .ch in
-    simp (c .before .before .no-errors .ensures, toZ-ofZ {w = w32} {z = ch .kept .counter} (record { sfits = c .struct-told .given .0 .1 }))
+    simp (c .before .before .no-errors .ensures, toZ-ofZ {w = w32} {z = ch .kept .counter} (record { sfits = c .struct-told .given .1 .0 .1 }))
 
 pub reset-channel-spec : {M : Type 1} → statement M
 reset-channel-spec = tie.close (tie.spec no-errors-requires returns)
