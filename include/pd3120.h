@@ -20,7 +20,8 @@
  * - a buffer is not null (checked; there it may be null where its length is 0);
  * - a buffer and the module have no byte in common (checked);
  * - no other thread uses the module or the buffer during the call;
- * - the stack has room for PD3120_STACK bytes.
+ * - the stack has room for PD3120_STACK bytes; for a read, a write, a sample or a tick,
+ *   PD3120_CALL_STACK are enough.
  */
 #ifndef PD3120_H
 #define PD3120_H
@@ -45,7 +46,8 @@ extern "C" {
  * tests/c/stack.c holds every kind of call to them. What an interrupt puts on the same stack comes
  * on top, and so does a dynamic linker that looks for memcpy or memset at their first call.
  */
-#define PD3120_STACK 4608
+#define PD3120_STACK 3584
+#define PD3120_CALL_STACK 512 /* of a read, a write, a level, a current or a tick */
 
 /* A box. Only the library looks inside. */
 typedef struct pd3120_module {
