@@ -22,7 +22,7 @@ pub fn byte_of(bits: [bool; 8]) -> u8
 }
 
 // One bit more, at the low end of a word.
-pub fn more(word: u16, b: bool) -> u16
+pub(crate) fn more(word: u16, b: bool) -> u16
     requires { ⌜ word < 32768 ⌝ }
     ensures { λ r. ⌜ r ≡ word * 2 + bitValue b ⌝ }
 {

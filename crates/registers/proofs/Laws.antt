@@ -9,11 +9,7 @@ use Rattle.model.specs.Registers.{place}
 use Rattle.model.specs.Settings.{isDigital}
 use Rattle.model.proofs.Laws.Places.{place-cases}
 use Rattle.model.proofs.Laws.Tests.{by-test, range}
-use Rattle.registers.specs.Places.{Within, slotOf, OfChannel}
-
--- a SWNo of a digital channel is of channel 1 to 16
-pub within : (n : ℕ) → Within (place n)
-within n = place-cases Within n tt (λ e r q. tt) (λ e r q. tt) (λ l h r e. (l, h))
+use Rattle.registers.specs.Places.{slotOf, OfChannel}
 
 -- ---- the place of a channel
 digital-is : (k : ℕ) → 1 ≤ k → k ≤ 16 → isDigital k ≡ true

@@ -1,7 +1,7 @@
 -- The code's place and the model's are the same four cases. Definitions only.
 use mathlib.Core.Path.{_≡_}
 use mathlib.Core.Bool.{cond}
-use Prim.Native.Nat.{ℕ, _-_, _≤_}
+use Prim.Native.Nat.{ℕ, _-_}
 use Rattle.model.specs.Settings.{isDigital}
 use Rattle.model.specs.Registers as Table
 use Rattle.registers.specs.declared.Place.{Place}
@@ -13,13 +13,6 @@ placed (Service r) = Table.service r
 placed (Digital k r) = Table.digital k r
 placed (Common r) = Table.common r
 placed Unlisted = Table.unlisted
-
--- a place of a digital channel is one of channels 1 to 16
-abbrev pub Within : Table.Place → Type 0
-Within (Table.service r) = Unit {0}
-Within (Table.digital k r) = (1 ≤ k) × (k ≤ 16)
-Within (Table.common r) = Unit {0}
-Within Table.unlisted = Unit {0}
 
 -- ---- the place of channel k among the sixteen, counted from 0; that of channel 1 where k is no channel's number
 abbrev pub slotOf : ℕ → ℕ
