@@ -1,8 +1,7 @@
 -- The table by computation over every SWNo, and none past it. Assumes nothing.
 use mathlib.Core.Path.{_≡_, refl}
-use Prim.Native.Nat.{ℕ, _/_, _≤_}
+use Prim.Native.Nat.{ℕ, _≤_}
 use native.Mathlib.Omega.{arith}
-use borrow.Author.Tests.{ne-eqb}
 use Rattle.model.specs.Registers.{unlisted, place}
 use Rattle.model.specs.Listed.{Listed}
 use Rattle.model.proofs.Laws.Places.{place-cases}

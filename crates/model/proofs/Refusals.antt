@@ -2,7 +2,7 @@
 -- call computes to what the claim states. Assumes nothing.
 use mathlib.Core.Path.{_≡_, refl, sym, _∙_, ap}
 use mathlib.Core.Bool.{Bool, true, false, cond, _&&_}
-use mathlib.Core.List.{List, [], _∷_, _++_, map, append-nil}
+use mathlib.Core.List.{List, [], _∷_, _++_, append-nil}
 use Prim.Native.Nat.{ℕ, zero, suc}
 use native.Mathlib.Omega.{arith}
 use lib.Dec.{T, leb}
@@ -20,9 +20,9 @@ use Rattle.model.specs.Registers.{Place, place}
 use Rattle.model.specs.Image as Image
 use Rattle.model.specs.Image.{poweredUp, zeroSetup}
 use Rattle.model.specs.Writes.{sharedWritten, written}
-use Rattle.model.specs.Questions.{Question, asked, refusalNumber, numberOf, lengthOf, readQuestions, writeQuestions, levelQuestions, currentQuestions}
+use Rattle.model.specs.Questions.{Question, asked, refusalNumber, numberOf, readQuestions, writeQuestions, levelQuestions, currentQuestions}
 use Rattle.model.specs.Questions.{powerUpQuestions, storeQuestions, readReply, writeReply, levelReply, currentReply, powerUpReply, storeReply}
-use Rattle.model.specs.Calls.{Request, read, write, level, current, tick, sortOf, Answer, Stepped, step, cleared, watchdogPreset, thenPreset, readAs}
+use Rattle.model.specs.Calls.{Request, read, write, level, current, tick, sortOf, step, cleared, watchdogPreset, thenPreset, readAs}
 use Rattle.model.specs.Calls.{writtenAs}
 use Rattle.model.specs.Calls.{plainAnswer, sampledAs, powerUp, poweredUpAs, powerUpAnswer, storeFills, stored, storeAnswer}
 use Rattle.model.specs.Refusals.{Asked, AllYes, FirstNo, Decides, Decided, Refusals, wireRefused, plainlyRefused, refusedBy, InOrder}

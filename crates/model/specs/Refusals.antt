@@ -5,17 +5,17 @@ use mathlib.Core.Bool.{Bool, true, false}
 use mathlib.Core.List.{List, [], _∷_, _++_}
 use Prim.Native.Nat.{ℕ, suc}
 use lib.IntN.{pos}
-use lib.ListN.{length, drop, replicate, set}
-use lib.Ieee.{Float, binary32, ofBits, ofInt}
+use lib.ListN.{length, replicate, set}
+use lib.Ieee.{Float, binary32, ofBits}
 use Rattle.counts.specs.Counts.{timer}
 use Rattle.model.specs.declared.Module.{Module}
 use Rattle.model.specs.State.{config, writeEnable}
 use Rattle.model.specs.Errors.{dataError, generalError}
 use Rattle.model.specs.Registers.{place}
-use Rattle.model.specs.Image.{Setup, sizeRight, countsRight, sumRight, valuesAllowed, encode, poweredUp, zeroSetup}
+use Rattle.model.specs.Image.{sizeRight, countsRight, sumRight, valuesAllowed, encode, poweredUp, zeroSetup}
 use Rattle.model.specs.Questions.{question1, question2, question3, question4, question5, question6, question7, question8, question9, question14}
 use Rattle.model.specs.Calls.{Request, read, write, level, current, Sort, aTick, aRead, aWrite, aLocalCall, sortOf, Stepped, step}
-use Rattle.model.specs.Calls.{cleared, watchdogPreset, powerUp, powerUpAnswer, stored, storeAnswer}
+use Rattle.model.specs.Calls.{cleared, watchdogPreset, powerUp, powerUpAnswer, storeAnswer}
 
 -- ---- which number is given
 -- a question by its number, and whether its answer is yes

@@ -12,7 +12,7 @@ use Rattle.model.specs.declared.Module.{Module}
 use Rattle.model.specs.State.{wdTimer, serviceBits, serviceOf, withServiceRecord}
 use Rattle.model.specs.Image.{setupOf, poweredUp}
 use Rattle.model.specs.Writes.{setWriteEnable}
-use Rattle.model.specs.Calls.{Answer, Stepped, write, step, powerUp, storeAnswer}
+use Rattle.model.specs.Calls.{Stepped, write, step, powerUp, storeAnswer}
 use Rattle.model.specs.Images.{Reached}
 
 -- a write of one byte to SWNo 3 and to SWNo $D

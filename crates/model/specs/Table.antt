@@ -12,7 +12,7 @@ use Rattle.model.specs.declared.Module.{Module}
 use Rattle.model.specs.State.{config, channelAt, putChannel, outTimer, fbTimer, setOutTimer}
 use Rattle.model.specs.Settings.{output}
 use Rattle.model.specs.Image.{Entry, entrySize, entryFrom, poweredUp, realZero}
-use Rattle.model.specs.Calls.{Request, read, write, tick, Answer, step, run}
+use Rattle.model.specs.Calls.{Request, read, write, tick, step, run}
 
 -- settings: the watchdog off; channel 1 with these Functions and this OutPreset, the other channels all zero
 abbrev pub noEntry : Entry

@@ -12,3 +12,4 @@ pub mod Tick
 pub mod Turns
 pub mod Types
 pub mod Write
+pub mod WriteLoop

@@ -1,12 +1,9 @@
 -- `store` meets its contract: a box that is reached stores what powers up to its kept values. Assumes nothing.
 use borrow.Author.Needs.{needs}
-use mathlib.Core.Bool.{false}
-use mathlib.Core.Path.{sym, ap, subst, _∙_}
+use mathlib.Core.Path.{sym, ap, subst}
 use mathlib.Core.List.{List}
 use Prim.Native.Nat.{ℕ}
 use lib.ListN.{take}
-use Rattle.model.specs.Questions.{numberOf}
-use Rattle.model.specs.Calls.{storeAnswer}
 use Rattle.model.specs.Images.{PowersUpTo}
 use Rattle.model.proofs.Images.{images}
 use Rattle.pd3120.proofs.Laws.Storing.{stored-answer, roomy}

@@ -22,7 +22,8 @@ use Rattle.pd3120_c.proofs.Laws.Turns.{first-turned}
 use Rattle.pd3120_c.proofs.Walks.Types.{word, bytes}
 use Rattle.pd3120_c.proofs.Walks.Box.{shared, service, channel, box, write-begun}
 use Rattle.pd3120_c.proofs.Walks.Turns.{turned}
-use Rattle.pd3120_c.proofs.Walks.Write.{Found, Started, Called, Finished, meets}
+use Rattle.pd3120_c.proofs.Walks.Write.{Found, Started, meets}
+use Rattle.pd3120_c.proofs.Walks.WriteLoop.{Called, Finished}
 use Rattle.registers.proofs.wire_slot.Symbol as slot-def
 use Rattle.registers.proofs.wire_slot.Symbol.{name as #slot}
 use Rattle.registers.proofs.wire_slot.Met as slot-thm
@@ -83,7 +84,7 @@ pd3120-write-spec 𝓤 H 𝓜 𝓖 𝓡 =
     code.calls-registers·wire-slot (slot-thm.met 𝓤 H 𝓜 𝓖 𝓡))
     (cited 𝓤 H (Started shared service channel box word bytes write-begun 𝓤 H (𝓖 .A) Begins) 𝓜 𝓡 code.env #begin begin-def.routine
     code.calls-pd3120-c·calls·begin-write (begin-thm.met 𝓤 H 𝓜 𝓖 𝓡))
-    (cited 𝓤 H (Called shared service channel box word bytes write-begun 𝓤 H (𝓖 .A) eachLeft) 𝓜 𝓡 code.env #turn turn-def.routine
+    (cited 𝓤 H (Called shared service channel box write-begun 𝓤 H (𝓖 .A) eachLeft) 𝓜 𝓡 code.env #turn turn-def.routine
     code.calls-pd3120-c·calls·write-each (turn-thm.met 𝓤 H 𝓜 𝓖 𝓡))
-    (cited 𝓤 H (Finished shared service channel box word bytes write-begun 𝓤 H (𝓖 .A) Ends) 𝓜 𝓡 code.env #finish finish-def.routine
+    (cited 𝓤 H (Finished shared service channel box write-begun 𝓤 H (𝓖 .A) Ends) 𝓜 𝓡 code.env #finish finish-def.routine
     code.calls-pd3120-c·calls·finish-write (finish-thm.met 𝓤 H 𝓜 𝓖 𝓡)))

@@ -1,6 +1,6 @@
 -- `calls::power_up` meets its contract. Assumes nothing.
 use borrow.Author.Needs.{needs}
-use mathlib.Core.Path.{sym, ap, _∙_}
+use mathlib.Core.Path.{ap, _∙_}
 use Rattle.model.specs.Calls.{Answer}
 use Rattle.pd3120_c.specs.Codes.{answerCode}
 use Rattle.pd3120_c.proofs.Laws.Lengths.{power-up-length}
