@@ -1,5 +1,5 @@
 // What registers show of all sixteen channels at once, as words; and whether any channel has errors.
-// The channels are gone through once for all of it, and each register is made of the words.
+// Each of the two goes through the channels once, and the registers are made of the words.
 ghost use mathlib.Core.Path.{_≡_};
 ghost use Rattle.errors.specs.Words.{wordsOf, anyOf};
 use crate::any_bit;

@@ -15,8 +15,8 @@ pub struct Taken {
     pub reply: Reply,
 }
 
-// The channel's place, counted from 0. For a number that is no channel's it is that of channel 1,
-// which the refused sample leaves as it is.
+// The channel's place by the number that a sample has, a byte. For a number that is no channel's it
+// is that of channel 1, which the refused sample leaves as it is.
 pub fn slot(channel: u8) -> usize
     ensures { λ r. ⌜ (r ≡ slotOf channel) × (r < 16) ⌝ }
 {

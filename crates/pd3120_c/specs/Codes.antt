@@ -82,11 +82,12 @@ ReadLeft s v ch w n lent d lent′ =
 abbrev pub eachLeft : WriteBegun → ℕ → Channel → Channel
 eachLeft b k ch = eachWritten (placed (b .place)) (b .word) k ch
 
--- the parts of a write put back, and the first channels made anew; of its answer the number, since its length is 0 and its bits are the module's
+-- the parts of a write put back, and the first channels made anew
 abbrev pub writeLeft : WriteBegun → ℕ → Module → Module
 writeLeft b i m =
     record { shared = b .shared; service = b .service; channels = firstEach (eachLeft b) (b .count) (set (m .channels) i (b .channel)) }
 
+-- of a write's answer the number is given; its length is 0, and its bits are those of the module that is left
 abbrev pub WriteLeft : Shared → Service → Channel → ℕ → List ℕ → WriteBegun → Type 0
 WriteLeft s v ch n bs b =
     (b .count ≤ 16)

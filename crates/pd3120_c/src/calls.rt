@@ -1,5 +1,5 @@
-// The calls of the library with their answers packed: what each exported function does with a copy
-// of the caller's module, or of the parts that it needs.
+// What the exported functions call, with a copy of the caller's module or of the parts that they
+// need. The answers are packed.
 ghost use mathlib.Core.Path.{_≡_};
 ghost use Rattle.model.specs.Errors.{dataError, generalError};
 ghost use Rattle.model.specs.Calls.{level, current};
@@ -40,7 +40,7 @@ pub fn store(m: Module, buf: &mut [u8]) -> u32
 }
 
 // What registers show of all channels.
-pub fn look(m: Module) -> Words
+pub fn words_of(m: Module) -> Words
     ensures { λ r. ⌜ r ≡ wordsOf (m .channels) ⌝ }
 {
     let channels = m.channels;
@@ -94,9 +94,7 @@ pub fn finish_write(m: Module, number: u8) -> u32
     ensures { λ r. ⌜ r ≡ packed number 0 (dataError m) (generalError m) ⌝ }
 {
     let bits = pd3120::error_bits(m);
-    (number as u32)
-        + codes::weigh(bits.data_error, 16777216)
-        + codes::weigh(bits.general_error, 33554432)
+    codes::code(number, 0, bits.data_error, bits.general_error)
 }
 
 pub fn level(s: Shared, ch: Channel, channel: u8, on: bool) -> ChannelDone

@@ -5,7 +5,7 @@ ghost use mathlib.Core.Bool.{cond};
 ghost use Prim.Native.Nat.{_≤_};
 ghost use Rattle.model.specs.Image.{imageSize};
 ghost use Rattle.model.specs.Questions.{lengthOf};
-ghost use Rattle.pd3120_c.specs.Codes.{replyCode};
+ghost use Rattle.pd3120_c.specs.Codes.{packed, replyCode};
 use model::Reply;
 use pd3120::replies;
 
@@ -15,11 +15,21 @@ pub(crate) fn weigh(set: bool, weight: u32) -> u32
     if set { weight } else { 0 }
 }
 
+pub(crate) fn code(number: u8, length: usize, data_error: bool, general_error: bool) -> u32
+    requires { ⌜ length ≤ imageSize ⌝ }
+    ensures { λ r. ⌜ r ≡ packed number length «data_error» «general_error» ⌝ }
+{
+    (number as u32)
+        + (length as u32) * 256
+        + weigh(data_error, 16777216)
+        + weigh(general_error, 33554432)
+}
+
 pub(crate) fn pack(reply: Reply, data_error: bool, general_error: bool) -> u32
     requires { ⌜ lengthOf reply ≤ imageSize ⌝ }
     ensures { λ r. ⌜ r ≡ replyCode reply «data_error» «general_error» ⌝ }
 {
-    let number = replies::number(reply) as u32;
-    let length = replies::length(reply) as u32;
-    number + length * 256 + weigh(data_error, 16777216) + weigh(general_error, 33554432)
+    let number = replies::number(reply);
+    let length = replies::length(reply);
+    code(number, length, data_error, general_error)
 }

@@ -70,7 +70,7 @@ pub extern "C" fn pd3120_read(m: &mut Module, swno: u16, buf: &mut [u8]) -> u32
     ensures { λ r. ⌜ LeftLent (step (now (m .entry)) (read swno (now (buf .entry)))) (now (m .exit)) r (now (buf .exit)) ⌝ }
 {
     let at = registers::wire_slot(swno);
-    let seen = calls::look(*m);
+    let seen = calls::words_of(*m);
     let done = calls::read(m.shared, m.service, m.channels[at], seen, swno, buf);
     m.service = done.service;
     m.channels[at] = done.channel;

@@ -1,2 +1,2 @@
--- The code's place of a register beside the model's.
+-- The code's place of a register beside the model's; and a channel's place among the sixteen.
 pub mod Places

@@ -1,4 +1,4 @@
--- The code's place and the model's are the same four cases. Definitions only.
+-- The code's place of a register and the model's, which are the same four cases; and a channel's place among the sixteen. Definitions only.
 use mathlib.Core.Path.{_≡_}
 use mathlib.Core.Bool.{cond}
 use Prim.Native.Nat.{ℕ, _-_}

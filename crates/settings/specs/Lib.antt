@@ -1,2 +1,2 @@
--- The words of the settings that document 01's definitions have no name for.
+-- The InFlags of all channels as one number, by which references are looked up.
 pub mod Levels

@@ -1,5 +1,6 @@
 -- A write in two steps: first the shared record, the service record and the SWNo's own channel, then, where the register asks for it, every channel in turn.
--- Definitions only.
+-- Those down to `eachWritten` are the parts of the model's `written`, one by one, for the functions that make one part each; that they are parts of it is shown
+-- by `begin`'s contract, `BegunBy`, which is an equation with the model's call. Definitions only.
 use mathlib.Core.Path.{_≡_}
 use mathlib.Core.List.{List, _++_}
 use Prim.Native.Nat.{ℕ, _/_, _≤_}
@@ -55,11 +56,11 @@ countOf (digital k r) = 0
 countOf (common r) = 16
 countOf unlisted = 0
 
-abbrev pub wordOf : Place → List ℕ → ℕ
-wordOf (service r) bs = 0
-wordOf (digital k r) bs = 0
-wordOf (common r) bs = number bs
-wordOf unlisted bs = 0
+abbrev pub writtenWord : Place → List ℕ → ℕ
+writtenWord (service r) bs = 0
+writtenWord (digital k r) bs = 0
+writtenWord (common r) bs = number bs
+writtenWord unlisted bs = 0
 
 abbrev pub eachWritten : Place → ℕ → ℕ → Channel → Channel
 eachWritten (service r) w i ch = everyWritten r ch

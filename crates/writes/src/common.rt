@@ -1,4 +1,4 @@
-// What a write of OutFlags or InFlags does to a channel, whose bit of the word it has.
+// What a write of OutFlags or InFlags does to a channel, by the channel's bit of the written word.
 ghost use mathlib.Core.Path.{_≡_};
 ghost use Rattle.model.specs.Writes.{bitWritten};
 use model::Channel;

@@ -6,7 +6,7 @@ ghost use mathlib.Core.Path.{_≡_};
 ghost use Prim.Native.Nat.{_≤_};
 ghost use Rattle.registers.specs.Places.{placed};
 ghost use Rattle.writes.specs.Accepted.{Accepted, writeOf};
-ghost use Rattle.writes.specs.Begun.{sharedAfter, serviceAfter, channelAfter, countOf, wordOf, eachWritten, firstEach, BegunBy};
+ghost use Rattle.writes.specs.Begun.{sharedAfter, serviceAfter, channelAfter, countOf, writtenWord, eachWritten, firstEach, BegunBy};
 
 mod common;
 mod digital;
@@ -87,7 +87,7 @@ fn count_of(p: Place) -> usize
 
 fn word_of(p: Place, b: &[u8]) -> u16
     requires { ⌜ Accepted (placed p) (now b) ⌝ }
-    ensures { λ r. ⌜ r ≡ wordOf (placed p) (now (b .entry)) ⌝ }
+    ensures { λ r. ⌜ r ≡ writtenWord (placed p) (now (b .entry)) ⌝ }
 {
     match p {
         Place::Service(_) => 0,

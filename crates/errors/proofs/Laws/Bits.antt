@@ -7,19 +7,14 @@ use native.Mathlib.Nat.{pow-suc, lt-of-lt-of-le}
 use native.Mathlib.Numerals.{add-one}
 use native.Mathlib.Omega.{arith}
 use lib.Dec.{eqb}
-use lib.ListN.{length, getD, take, drop, drop-of-length-le, length-append, length-take, length-drop, length-map, List·getD-map}
+use lib.ListN.{length, getD, take, length-append, length-take, length-map}
 use lib.Pow.{pow-mono}
-use lib.Seq.{take-suc, drop-cons}
+use lib.Seq.{take-suc}
 use borrow.Author.Tests.{ne-eqb}
 use Rattle.integers.specs.Bytes.{bytesOf}
 use Rattle.model.specs.declared.Channel.{Channel}
 use Rattle.model.specs.State.{nothing}
 use Rattle.model.specs.Errors.{bitValue, byteOf, wordOf, any}
-
--- the value of a bit
-pub bit-room : (n : ℕ) (b : Bool) → n ≡ bitValue b → n ≤ 1
-bit-room n true e = omega (arith, e)
-bit-room n false e = omega (arith, e)
 
 -- ---- the highest bit first
 -- a bit more, at the low end
@@ -47,40 +42,12 @@ byte-room k w bits h =
     lt-of-lt-of-le (byte-below (take k bits)) (pow-mono l)
 
 -- ---- the lowest bit first
-word-step : (k : ℕ) (bits : List Bool) → k < length bits → wordOf (drop (suc k) bits) * 2 + bitValue (getD bits k false) ≡ wordOf (drop k bits)
-word-step k bits h = rw (drop-cons bits k false) (omega arith)
-
 -- a bit more, at the high end
 pub word-snoc : (xs : List Bool) (b : Bool) → wordOf (xs ++ (b ∷ [])) ≡ wordOf xs + bitValue b * 2 ^ length xs
 word-snoc [] true = refl
 word-snoc [] false = refl
 word-snoc (x ∷ xs) true = rw (word-snoc xs true, pow-suc) (omega arith)
 word-snoc (x ∷ xs) false = rw (word-snoc xs false) (omega arith)
-
-word-below : (xs : List Bool) → wordOf xs < 2 ^ length xs
-word-below [] = omega arith
-word-below (true ∷ xs) = let h = word-below xs in rw pow-suc (omega arith)
-word-below (false ∷ xs) = let h = word-below xs in rw pow-suc (omega arith)
-
-word-room : (k w : ℕ) (bits : List Bool) → length bits ≤ k + w → wordOf (drop k bits) < 2 ^ w
-word-room k w bits h =
-    let l : length (drop k bits) ≤ w = simp length-drop (omega arith) in
-    lt-of-lt-of-le (word-below (drop k bits)) (pow-mono l)
-
--- ---- a flag of the sixteen channels, as a word, from the last channel down: none yet, room for one more, one more
-module _ (p : Channel → Bool) (cs : List Channel) (l : length cs ≡ 16) where
-  pub flag-none : 0 ≡ wordOf (drop 16 (map p cs))
-  flag-none = let h : length (map p cs) ≤ 16 = rw (length-map, l) (omega arith) in rw (drop-of-length-le (map p cs) {i = 16} h)
-
-  pub flag-room : (k n : ℕ) → 0 < k → n ≡ wordOf (drop k (map p cs)) → n < 32768
-  flag-room k n h e = rw e (word-room k 15 (map p cs) (rw (length-map, l) (omega arith)))
-
-  pub flag-next : (k n r : ℕ) (b : Bool) → p nothing ≡ false → 0 < k → k ≤ 16 → n ≡ wordOf (drop k (map p cs)) → b ≡ p (getD cs (k - 1) nothing)
-      → r ≡ n * 2 + bitValue b → r ≡ wordOf (drop (k - 1) (map p cs))
-  flag-next k n r b z h i e q f =
-      let s : suc (k - 1) ≡ k = omega arith in
-      let g : k - 1 < length (map p cs) = rw (length-map, l) (omega arith) in
-      rw (f, e, q, ← List·getD-map p cs (k - 1) nothing, z) (rw s at (word-step (k - 1) (map p cs) g))
 
 -- ---- that any channel has a flag: one channel more, and that it is so where the word of all is not 0
 any-snoc : (p : Channel → Bool) (cs : List Channel) (ch : Channel) → any p (cs ++ (ch ∷ [])) ≡ any p cs || p ch

@@ -1,4 +1,4 @@
--- For callers: a word of the channels' errors is not 0 where any channel has them. Assumes nothing.
+-- For callers: a word of the channels' errors is not 0 exactly where a channel has some. Assumes nothing.
 use mathlib.Core.Path.{_≡_, ap, sym, _∙_}
 use mathlib.Core.Bool.{not}
 use mathlib.Core.List.{List}

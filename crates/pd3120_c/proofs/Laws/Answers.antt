@@ -1,9 +1,8 @@
 -- An answer packed: the module and the code of the model's step, from what the library's call and the packing give. Assumes nothing.
 use mathlib.Core.Path.{_≡_, refl, sym, ap, _∙_}
-use mathlib.Core.Bool.{false, cond}
+use mathlib.Core.Bool.{false}
 use mathlib.Core.List.{List}
-use Prim.Native.Nat.{ℕ, _+_, _*_, _/_}
-use native.Mathlib.Omega.{arith}
+use Prim.Native.Nat.{ℕ, _/_}
 use lib.ListN.{getD, set}
 use Rattle.model.specs.declared.Channel.{Channel}
 use Rattle.model.specs.declared.Module.{Module}
@@ -18,7 +17,6 @@ use Rattle.registers.specs.Places.{slotOf}
 use Rattle.writes.specs.declared.Begun.{Begun}
 use Rattle.writes.specs.Begun.{wholeOf}
 use Rattle.pd3120.specs.declared.Changed.{Changed}
-use Rattle.pd3120.specs.declared.WireBits.{WireBits}
 use Rattle.pd3120.specs.declared.samples.Taken.{Taken}
 use Rattle.pd3120.specs.Parts.{ReadBy, WriteBy, SampleBy}
 use Rattle.pd3120_c.specs.declared.ChannelDone.{ChannelDone}
@@ -54,13 +52,6 @@ write-left s v ch n bs b number h f l = (
             ∙ ap (λ (k : ℕ). packed (numberOf (b .reply)) k (dataError after) (generalError after)) (sym l) ∙ ap (λ (x : Stepped). answerCode (x .answer)) e,
       ),
 )
-
--- the code of a write's answer
-pub finished : (m : Module) (b : WireBits) (number x y : ℕ) → b ≡ record { «data_error» = dataError m; «general_error» = generalError m }
-    → x ≡ cond (b .«data_error») 16777216 0 → y ≡ cond (b .«general_error») 33554432 0 → number + x + y ≡ packed number 0 (dataError m) (generalError m)
-finished m b number x y e f g =
-    let z : number ≡ number + 0 * 256 = omega arith in
-    rw (f, g, e) (ap (λ (k : ℕ). k + cond (dataError m) 16777216 0 + cond (generalError m) 33554432 0) z)
 
 -- a sample's channel, of any module
 pub sample-done : (x : Request) (s : Shared) (ch : Channel) (i : ℕ) (t : Taken) (code : ℕ) → SampleBy x s ch i t → code ≡ replyCode (t .reply) false false

@@ -24,9 +24,9 @@ use Rattle.pd3120_c.proofs.Walks.Read.{Found, Seen, Called, meets}
 use Rattle.registers.proofs.wire_slot.Symbol as slot-def
 use Rattle.registers.proofs.wire_slot.Symbol.{name as #slot}
 use Rattle.registers.proofs.wire_slot.Met as slot-thm
-use Rattle.pd3120_c.proofs.calls.look.Symbol as look-def
-use Rattle.pd3120_c.proofs.calls.look.Symbol.{name as #look}
-use Rattle.pd3120_c.proofs.calls.look.Met as look-thm
+use Rattle.pd3120_c.proofs.calls.words_of.Symbol as look-def
+use Rattle.pd3120_c.proofs.calls.words_of.Symbol.{name as #look}
+use Rattle.pd3120_c.proofs.calls.words_of.Met as look-thm
 use Rattle.pd3120_c.proofs.calls.read.Symbol as call-def
 use Rattle.pd3120_c.proofs.calls.read.Symbol.{name as #call}
 use Rattle.pd3120_c.proofs.calls.read.Met as call-thm
@@ -62,7 +62,7 @@ pd3120-read-spec 𝓤 H 𝓜 𝓖 𝓡 =
     (tablesOf 𝓤 H 𝓜 (tables 𝓤 H 𝓜 𝓡 code.env))
     (cited 𝓤 H (Found shared service channel box seen word changed 𝓤 H (𝓖 .A) Finds) 𝓜 𝓡 code.env #slot slot-def.routine code.calls-registers·wire-slot
     (slot-thm.met 𝓤 H 𝓜 𝓖 𝓡))
-    (cited 𝓤 H (Seen shared service channel box seen word changed 𝓤 H (𝓖 .A) Sees) 𝓜 𝓡 code.env #look look-def.routine code.calls-pd3120-c·calls·look
+    (cited 𝓤 H (Seen shared service channel box seen word changed 𝓤 H (𝓖 .A) Sees) 𝓜 𝓡 code.env #look look-def.routine code.calls-pd3120-c·calls·words-of
     (look-thm.met 𝓤 H 𝓜 𝓖 𝓡))
     (cited 𝓤 H (Called shared service channel box seen word changed 𝓤 H (𝓖 .A) Gives) 𝓜 𝓡 code.env #call call-def.routine code.calls-pd3120-c·calls·read
     (call-thm.met 𝓤 H 𝓜 𝓖 𝓡)))

@@ -1,13 +1,13 @@
 -- `levels` meets its contract. Assumes nothing.
 use mathlib.Core.Path.{_≡_, refl}
 use mathlib.Core.List.{map}
-use Prim.Native.Nat.{suc, _-_, _≤_, _<_}
+use Prim.Native.Nat.{_-_, _≤_}
 use native.Mathlib.Omega.{arith}
-use lib.ListN.{length, drop, drop-of-length-le, length-map}
+use lib.ListN.{length, getD, drop}
 use borrow.Author.Needs.{needs}
-use Rattle.model.specs.State.{inFlag}
+use Rattle.model.specs.State.{inFlag, nothing}
 use Rattle.model.specs.Errors.{wordOf}
-use Rattle.ticks.proofs.Laws.Words.{flag-step, flag-room, bit-room}
+use Rattle.model.proofs.Laws.Words.{bit-room, flag-none, flag-room, flag-next}
 use Rattle.ticks.proofs.levels.Statement.{statement}
 use Rattle.ticks.proofs.levels.Tie as tie
 
@@ -21,8 +21,7 @@ loop-holds : tie.Need-loop-holds Inv-loop μ-loop
 loop-holds c =
     let cs = c .args .t1 in
     let n : length cs ≡ 16 = search needs in
-    let h : length (map inFlag cs) ≤ 16 = rw length-map (omega arith) in
-    (search needs, rw (drop-of-length-le (map inFlag cs) {i = 16} h))
+    (search needs, flag-none inFlag cs n)
 
 sub-k : tie.Need-sub-k Inv-loop μ-loop
 sub-k c = search needs
@@ -41,7 +40,7 @@ mul-r c =
     let l = c .before .before .before .loop in
     let cs = c .before .before .before .before .args .t1 in
     let n : length cs ≡ 16 = search needs in
-    let h = flag-room inFlag (l .k) cs (l .r) n (omega arith) (l .inv .1) in
+    let h = flag-room inFlag cs n (l .k) (l .r) (omega arith) (l .inv .1) in
     omega arith
 
 add-r : tie.Need-add-r Inv-loop μ-loop
@@ -49,8 +48,8 @@ add-r c =
     let l = c .before .before .before .loop in
     let cs = c .before .before .before .before .args .t1 in
     let n : length cs ≡ 16 = search needs in
-    let h = flag-room inFlag (l .k) cs (l .r) n (omega arith) (l .inv .1) in
-    let b : c .bit .result ≤ 1 = rw (c .bit .ensures) (search bit-room) in
+    let h = flag-room inFlag cs n (l .k) (l .r) (omega arith) (l .inv .1) in
+    let b = bit-room _ (inFlag (getD cs (l .k - 1) nothing)) (c .bit .ensures) in
     omega arith
 
 loop-less : tie.Need-loop-less Inv-loop μ-loop
@@ -60,9 +59,8 @@ loop-again : tie.Need-loop-again Inv-loop μ-loop
 loop-again c =
     let l = c .before .before .before .loop in
     let cs = c .before .before .before .before .args .t1 in
-    let h : l .k - 1 < length cs = search needs in
-    let e : suc (l .k - 1) ≡ l .k = omega arith in
-    (omega arith, rw (l .inv .1, c .bit .ensures) (rw e at (flag-step inFlag (l .k - 1) cs refl h)))
+    let n : length cs ≡ 16 = search needs in
+    (omega arith, rw (c .bit .ensures) (flag-next inFlag cs n (l .k) (l .r) _ _ refl (omega arith) (l .inv .0) (l .inv .1) refl refl))
 
 returns : tie.Need-returns Inv-loop μ-loop
 returns c =

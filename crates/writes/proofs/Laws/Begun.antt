@@ -28,7 +28,7 @@ use Rattle.registers.specs.Places.{placed, slotOf, OfChannel}
 use Rattle.registers.proofs.Laws.{slot-of}
 use Rattle.writes.specs.declared.Begun.{Begun}
 use Rattle.writes.specs.Accepted.{writeOf}
-use Rattle.writes.specs.Begun.{sharedAfter, serviceAfter, channelAfter, serviceCount, countOf, wordOf, eachWritten, firstEach, BegunBy}
+use Rattle.writes.specs.Begun.{sharedAfter, serviceAfter, channelAfter, serviceCount, countOf, writtenWord, eachWritten, firstEach, BegunBy}
 use Rattle.writes.proofs.Laws.Accepted.{answered}
 
 -- ---- the channels
@@ -80,7 +80,7 @@ whole : (p : Place) (bs : List ℕ) (i : ℕ) (s : Shared) (v : Service) (cs : L
     record {
       shared = sharedAfter p bs s;
       service = serviceAfter p v;
-      channels = firstEach (eachWritten p (wordOf p bs)) (countOf p) (set cs i (channelAfter p s bs (getD cs i nothing)));
+      channels = firstEach (eachWritten p (writtenWord p bs)) (countOf p) (set cs i (channelAfter p s bs (getD cs i nothing)));
     } ≡ written p bs (record { shared = s; service = v; channels = cs })
 unfolding written commonWritten
 whole (service r) bs i s v cs o l = rw (set-getD cs i nothing, every-channel r cs l)
@@ -109,7 +109,7 @@ module _ (s : Shared) (v : Service) (ch : Channel) (n : ℕ) (bs : List ℕ) (p 
 
   pub begun-done : (k : ℕ) → r ≡ Done k → (s′ : Shared) (v′ : Service) (ch′ : Channel) (count word : ℕ)
       → s′ ≡ sharedAfter (placed p) bs s → v′ ≡ serviceAfter (placed p) v → ch′ ≡ channelAfter (placed p) s bs ch
-      → count ≡ countOf (placed p) → word ≡ wordOf (placed p) bs
+      → count ≡ countOf (placed p) → word ≡ writtenWord (placed p) bs
       → BegunBy s v ch n bs (record { reply = r; shared = s′; service = v′; channel = ch′; count = count; place = p; word = word })
   begun-done k d s′ v′ ch′ count word es ev ec en ew = (
     rw en (count-fits (placed p)),

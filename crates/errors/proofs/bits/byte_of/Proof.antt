@@ -8,7 +8,8 @@ use lib.ListN.{length, getD, take}
 use lib.Seq.{take-all}
 use borrow.Author.Needs.{needs}
 use Rattle.model.specs.Errors.{byteOf}
-use Rattle.errors.proofs.Laws.Bits.{byte-step, byte-room, bit-room}
+use Rattle.model.proofs.Laws.Words.{bit-room}
+use Rattle.errors.proofs.Laws.Bits.{byte-step, byte-room}
 use Rattle.errors.proofs.bits.byte_of.Statement.{statement}
 use Rattle.errors.proofs.bits.byte_of.Tie as tie
 

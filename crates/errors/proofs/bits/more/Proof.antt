@@ -1,7 +1,7 @@
 -- `bits::more` meets its contract. Assumes nothing.
 use native.Mathlib.Omega.{arith}
 use borrow.Author.Needs.{needs}
-use Rattle.errors.proofs.Laws.Bits.{bit-room}
+use Rattle.model.proofs.Laws.Words.{bit-room}
 use Rattle.errors.proofs.bits.more.Statement.{statement}
 use Rattle.errors.proofs.bits.more.Tie as tie
 

@@ -9,7 +9,7 @@ use borrow.Author.Needs.{needs}
 use Rattle.model.specs.declared.Channel.{Channel}
 use Rattle.model.specs.State.{outFlag, inFlag}
 use Rattle.model.specs.Errors.{wordOf, anyBit, hasHis, hasAct}
-use Rattle.errors.proofs.Laws.Bits.{flag-none, flag-room, flag-next}
+use Rattle.model.proofs.Laws.Words.{flag-none, flag-room, flag-next}
 use Rattle.errors.proofs.words.of_channels.Statement.{statement}
 use Rattle.errors.proofs.words.of_channels.Tie as tie
 
