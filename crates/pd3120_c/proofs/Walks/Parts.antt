@@ -33,7 +33,8 @@ module _ (X Y : Plain) where
     pub typed : {M : Type 1} (𝓤 : URA M) (H : Heap 𝓤) (A : Atoms 𝓤) → Given 𝓤 H A → (x : D) (v : Val) → shadow (own x (v ∷ []))
         → T (hasTy (tyStruct name (tcons (X .mir) (tcons (Y .mir) more))) v) × WT v
     pub pure : (x : D) (vs : List Val) → Pure (own x vs)
-    pub fields : (x : D) (vs : List Val) → shadow (own x vs) → shadow (X .own (first x) (X .val (first x) ∷ [])) × shadow (Y .own (second x) (Y .val (second x) ∷ []))
+    pub fields : (x : D) (vs : List Val) → shadow (own x vs) → shadow (X .own (first x) (X .val (first x) ∷ []))
+        × shadow (Y .own (second x) (Y .val (second x) ∷ []))
 
   abbrev pub begun : Begun → Plain
   begun B = record {
@@ -68,7 +69,8 @@ module _ (X Y Z : Plain) where
     pub number : D → ℕ
     pub rest : D → Vals
     pub tells : (x : D) (vs : List Val) → shadow (own x vs)
-        → vs ≡ vstruct (vcons (X .val (first x)) (vcons (Y .val (second x)) (vcons (Z .val (item x)) (vcons (vint w64 (count x)) (vcons (vint w8 (number x)) (rest x))))))
+        → vs ≡ vstruct (vcons (X .val (first x)) (vcons (Y .val (second x)) (vcons (Z .val (item x)) (vcons (vint w64 (count x))
+        (vcons (vint w8 (number x)) (rest x))))))
         ∷ []
     pub typed : {M : Type 1} (𝓤 : URA M) (H : Heap 𝓤) (A : Atoms 𝓤) → Given 𝓤 H A → (x : D) (v : Val) → shadow (own x (v ∷ []))
         → T (hasTy (opened-layout name more) v) × WT v

@@ -235,7 +235,8 @@ module _ (X Y Z : Plain) (S : Grouped X Y Z) (N I : Plain) (R : Changes Y Z) whe
               -- [obs; the borrow; the token; what buf owns; its token; true; true]
               enter ! C Λ (fn-of slot view key) (vptr b o ∷ I .val i ∷ s ∷ []) _ $
               alloc1 ! (λ l₀. alloc1 ! (λ l₁. alloc1 ! (λ l₂. alloc1 ! (λ l₃. alloc1 ! (λ l₄. alloc1 ! (λ l₅. alloc1 ! (λ l₆. alloc1 ! (λ l₇. alloc1 ! (λ l₈.
-              alloc1 ! (λ l₉. alloc1 ! (λ l₁₀. alloc1 ! (λ l₁₁. alloc1 ! (λ l₁₂. alloc1 ! (λ l₁₃. alloc1 ! (λ l₁₄. alloc1 ! (λ l₁₅. alloc1 ! (λ l₁₆. alloc1 ! (λ l₁₇. alloc0 ! $ params1 ! $
+              alloc1 ! (λ l₉. alloc1 ! (λ l₁₀. alloc1 ! (λ l₁₁. alloc1 ! (λ l₁₂. alloc1 ! (λ l₁₃. alloc1 ! (λ l₁₄. alloc1 ! (λ l₁₅.
+              alloc1 ! (λ l₁₆. alloc1 ! (λ l₁₇. alloc0 ! $ params1 ! $
               pass1 ! (init ! 32 refl (tt, tt)) $ pass1 ! (init ! 30 refl (I .typed 𝓤 H A W i i-is)) $
               pass1 ! (init ! 28 refl (tt, (tt, (record { fits = room .0 }, tt)))) $ pass0 ! $
               -- the item's place
@@ -273,8 +274,10 @@ module _ (X Y Z : Plain) (S : Grouped X Y Z) (N I : Plain) (R : Changes Y Z) whe
               assigns ! (of-opd ! (load ! (from ! (hop ! (look ! 14 refl) (stop !)))
               (look-in ! 0 (elem ! (item-vals Z (S .count) (S .items h) (items-are X Y Z S h is)) k (Z .val (S .none))
               (within Z (S .count) (S .items h) (items-are X Y Z S h is) (S .none) k (below i k p₀)) (long Z (S .count) (S .items h) (items-are X Y Z S h is))
-              (sub ! 2 refl (whole !)))))) (from ! (stop !)) (init ! 12 refl (item-typed Z (S .count) (S .items h) (items-are X Y Z S h is) (S .none) k (below i k p₀) 𝓤 H A W)) $
-              rewrite ! 12 (λ (u : Val). ‵ (fat fullShare (Z .mir) l₁₃ 0 u)) (item-val Z (S .count) (S .items h) (items-are X Y Z S h is) (S .none) k (below i k p₀)) refl $
+              (sub ! 2 refl (whole !)))))) (from ! (stop !))
+              (init ! 12 refl (item-typed Z (S .count) (S .items h) (items-are X Y Z S h is) (S .none) k (below i k p₀) 𝓤 H A W)) $
+              rewrite ! 12 (λ (u : Val). ‵ (fat fullShare (Z .mir) l₁₃ 0 u))
+              (item-val Z (S .count) (S .items h) (items-are X Y Z S h is) (S .none) k (below i k p₀)) refl $
               assigns ! (addr ! (from ! (fld ! refl (hop ! (look-in ! 32 (sub ! 0 refl (whole !))) (stop !))))) (from ! (stop !)) (init ! 10 refl (tt, tt)) $
               assigns ! (agg ! (and-then ! (load ! (from ! (stop !)) (look ! 10 refl))
               (and-then ! (load ! (from ! (fld ! refl (stop !))) (look-in ! 32 (sub ! 1 refl (whole !)))) (no-more !))))
@@ -309,7 +312,8 @@ module _ (X Y Z : Plain) (S : Grouped X Y Z) (N I : Plain) (R : Changes Y Z) whe
               (init ! 8 refl (tt, tt)) $
               assigns ! (of-opd ! (load ! (from ! (fld ! refl (stop !))) (look-in ! 30 (sub ! 1 refl (whole !))))) (from ! (hop ! (look ! 8 refl) (stop !)))
               (store-in ! 4 (elem ! (item-vals Z (S .count) (S .items h) (items-are X Y Z S h is)) k (Z .val (S .none))
-              (within Z (S .count) (S .items h) (items-are X Y Z S h is) (S .none) k (below i k p₀)) (long Z (S .count) (S .items h) (items-are X Y Z S h is)) (sub ! 2 refl (whole !))) (Z .typed 𝓤 H A W (R .item r) (R .fields r (w ∷ []) isr .1 .0))) $
+              (within Z (S .count) (S .items h) (items-are X Y Z S h is) (S .none) k (below i k p₀))
+              (long Z (S .count) (S .items h) (items-are X Y Z S h is)) (sub ! 2 refl (whole !))) (Z .typed 𝓤 H A W (R .item r) (R .fields r (w ∷ []) isr .1 .0))) $
               assigns ! (of-opd ! (load ! (from ! (fld ! refl (stop !))) (look-in ! 30 (sub ! 2 refl (whole !))))) (from ! (stop !))
               (init ! 42 refl (tt, record { fits = R .fields r (w ∷ []) isr .1 .1 })) $
               rewrite ! 4 (λ (ws : List Val). ‵ (fat fullShare (S′ .mir) b o
@@ -323,15 +327,18 @@ module _ (X Y Z : Plain) (S : Grouped X Y Z) (N I : Plain) (R : Changes Y Z) whe
               closes ! tt (row S′) (with-parts h k r) (parts X Y Z (S .first h) (R .second r) (set (S .items h) k (R .item r)) ∷ []) b o $
               -- [obs; the borrow; the token; what the answer owns; buf's token; the last bytes; true; _17; …]
               returns ! (look ! 41 refl) $
-              forget ! 7 refl $ forget ! 9 refl $ forget ! 11 refl $ forget ! 13 refl $ forget ! 15 refl $ forget ! 17 refl $ forget ! 19 refl $ forget ! 21 refl $ forget ! 23 refl $
-              forget ! 25 refl $ forget ! 27 refl $ forget ! 29 refl $ forget ! 31 refl $ forget ! 33 refl $ forget ! 35 refl $ forget ! 37 refl $ forget ! 39 refl $ forget ! 41 refl $
+              forget ! 7 refl $ forget ! 9 refl $ forget ! 11 refl $ forget ! 13 refl $ forget ! 15 refl $ forget ! 17 refl $ forget ! 19 refl $
+              forget ! 21 refl $ forget ! 23 refl $
+              forget ! 25 refl $ forget ! 27 refl $ forget ! 29 refl $ forget ! 31 refl $ forget ! 33 refl $ forget ! 35 refl $ forget ! 37 refl $
+              forget ! 39 refl $ forget ! 41 refl $
               move ! (41 ∷ 42 ∷ []) $ free1 ! $ move ! (39 ∷ 40 ∷ []) $ free1 ! $ move ! (37 ∷ 38 ∷ []) $ free1 ! $ move ! (35 ∷ 36 ∷ []) $ free1 ! $
               move ! (33 ∷ 34 ∷ []) $ free1 ! $ move ! (31 ∷ 32 ∷ []) $ free1 ! $ move ! (29 ∷ 30 ∷ []) $ free1 ! $ move ! (27 ∷ 28 ∷ []) $ free1 ! $
               move ! (25 ∷ 26 ∷ []) $ free1 ! $ move ! (23 ∷ 24 ∷ []) $ free1 ! $ move ! (21 ∷ 22 ∷ []) $ free1 ! $ move ! (19 ∷ 20 ∷ []) $ free1 ! $
               move ! (17 ∷ 18 ∷ []) $ free1 ! $ move ! (15 ∷ 16 ∷ []) $ free1 ! $ move ! (13 ∷ 14 ∷ []) $ free1 ! $ move ! (11 ∷ 12 ∷ []) $ free1 ! $
               move ! (9 ∷ 10 ∷ []) $ free1 ! $ move ! (7 ∷ 8 ∷ []) $ free1 ! $
               free0 ! $
-              keep ! (0 ∷ 1 ∷ 2 ∷ 4 ∷ 5 ∷ []) $ by ! (exits k r (zs .1 .1 .1 .1 .1 .0) (follows h i (y .now) k v r (zs .1 .1 .1 .1 .1 .0) (items-are X Y Z S h is .1) p₀ p₁ e) l
+              keep ! (0 ∷ 1 ∷ 2 ∷ 4 ∷ 5 ∷ []) $ by ! (exits k r (zs .1 .1 .1 .1 .1 .0)
+              (follows h i (y .now) k v r (zs .1 .1 .1 .1 .1 .0) (items-are X Y Z S h is .1) p₀ p₁ e) l
               (R .fields r (w ∷ []) isr .1 .1))))))))))))))))))))))))))))))))))))
 
       all-walk : (C : Calls 𝓤 H) (Λ : Loops 𝓤 H) → FmC 𝓤 H (W .laws) C → Triple 𝓤 (C slot) (Found P₀) → Triple 𝓤 (C view) (Seen P₁)

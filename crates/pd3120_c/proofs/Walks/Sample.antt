@@ -158,7 +158,8 @@ module _ (X Y Z : Plain) (S : Grouped X Y Z) (I J : Plain) (R : Packed Z) where
           goes-call =
               qed W (‵ (S .own h (vals S′ h)) ∷ []) ∵ drop ! $ nothing ! $
               owned ! (row J) (Is (row J)) (makes J 𝓤 H A) j _ j-is $ fjoin ! $ owned ! (row I) (Is (row I)) (makes I 𝓤 H A) i _ i-is $ fjoin ! $
-              owned ! (row Z) (Is (row Z)) (makes Z 𝓤 H A) c _ (item-is Z (S .count) (S .items h) (items-are X Y Z S h is) (S .none) k l) $ fjoin ! $ owned ! (row X) (Is (row X)) (makes X 𝓤 H A) (S .first h) _
+              owned ! (row Z) (Is (row Z)) (makes Z 𝓤 H A) c _ (item-is Z (S .count) (S .items h) (items-are X Y Z S h is) (S .none) k l) $ fjoin ! $
+              owned ! (row X) (Is (row X)) (makes X 𝓤 H A) (S .first h) _
               (first-is X Y Z S h is) $ fjoin ! $
               nothing ! $ join ! $ frame ! $ done !
 
@@ -218,7 +219,8 @@ module _ (X Y Z : Plain) (S : Grouped X Y Z) (I J : Plain) (R : Packed Z) where
               (within Z (S .count) (S .items h) (items-are X Y Z S h is) (S .none) k (below i k p)) (long Z (S .count) (S .items h) (items-are X Y Z S h is))
               (sub ! 2 refl (whole !))))))
               (from ! (stop !)) (init ! 9 refl (item-typed Z (S .count) (S .items h) (items-are X Y Z S h is) (S .none) k (below i k p) 𝓤 H A W)) $
-              rewrite ! 9 (λ (u : Val). ‵ (fat fullShare (Z .mir) l₁₀ 0 u)) (item-val Z (S .count) (S .items h) (items-are X Y Z S h is) (S .none) k (below i k p)) refl $
+              rewrite ! 9 (λ (u : Val). ‵ (fat fullShare (Z .mir) l₁₀ 0 u))
+              (item-val Z (S .count) (S .items h) (items-are X Y Z S h is) (S .none) k (below i k p)) refl $
               move ! (1 ∷ []) $ use1 W (raw (Called P′ .pre (to-call k (below i k p) is))) (goes-call k (below i k p) is) $
               calls-at ! fm (Called P′) known (to-call k (below i k p) is) (and-then ! (load ! (from ! (stop !)) (look ! 17 refl))
               (and-then ! (load ! (from ! (stop !)) (look ! 9 refl)) (and-then ! (load ! (from ! (stop !)) (look ! 25 refl))
@@ -238,7 +240,8 @@ module _ (X Y Z : Plain) (S : Grouped X Y Z) (I J : Plain) (R : Packed Z) where
               (init ! 4 refl (tt, tt)) $
               assigns ! (of-opd ! (load ! (from ! (fld ! refl (stop !))) (look-in ! 18 (sub ! 0 refl (whole !))))) (from ! (hop ! (look ! 4 refl) (stop !)))
               (store-in ! 0 (elem ! (item-vals Z (S .count) (S .items h) (items-are X Y Z S h is)) k (Z .val (S .none))
-              (within Z (S .count) (S .items h) (items-are X Y Z S h is) (S .none) k (below i k p)) (long Z (S .count) (S .items h) (items-are X Y Z S h is)) (sub ! 2 refl (whole !)))
+              (within Z (S .count) (S .items h) (items-are X Y Z S h is) (S .none) k (below i k p))
+              (long Z (S .count) (S .items h) (items-are X Y Z S h is)) (sub ! 2 refl (whole !)))
               (Z .typed 𝓤 H A W (R .after r) (R .fields r (w′ ∷ []) isr .0))) $
               assigns ! (of-opd ! (load ! (from ! (fld ! refl (stop !))) (look-in ! 18 (sub ! 1 refl (whole !))))) (from ! (stop !))
               (init ! 28 refl (tt, record { fits = R .fields r (w′ ∷ []) isr .1 })) $
@@ -252,7 +255,8 @@ module _ (X Y Z : Plain) (S : Grouped X Y Z) (I J : Plain) (R : Packed Z) where
               move ! (1 ∷ 0 ∷ 2 ∷ 3 ∷ 4 ∷ []) $ closes ! tt (row S′) (h′ k (below i k p) is r) (vs′ k (below i k p) is r) b o $
               -- [obs; the borrow; the token; _12; …; _0; …]
               returns ! (look ! 27 refl) $
-              forget ! 3 refl $ forget ! 5 refl $ forget ! 7 refl $ forget ! 9 refl $ forget ! 11 refl $ forget ! 13 refl $ forget ! 15 refl $ forget ! 17 refl $ forget ! 19 refl $ forget ! 21 refl $ forget ! 23 refl $ forget ! 25 refl $ forget ! 27 refl $
+              forget ! 3 refl $ forget ! 5 refl $ forget ! 7 refl $ forget ! 9 refl $ forget ! 11 refl $ forget ! 13 refl $ forget ! 15 refl $
+              forget ! 17 refl $ forget ! 19 refl $ forget ! 21 refl $ forget ! 23 refl $ forget ! 25 refl $ forget ! 27 refl $
               move ! (27 ∷ 28 ∷ []) $ free1 ! $ move ! (25 ∷ 26 ∷ []) $ free1 ! $ move ! (23 ∷ 24 ∷ []) $ free1 ! $ move ! (21 ∷ 22 ∷ []) $ free1 ! $ move !
               (19 ∷ 20 ∷ []) $ free1 ! $ move ! (17 ∷ 18 ∷ []) $ free1 ! $ move ! (15 ∷ 16 ∷ []) $ free1 ! $ move ! (13 ∷ 14 ∷ []) $ free1 ! $ move !
               (11 ∷ 12 ∷ []) $ free1 ! $ move ! (9 ∷ 10 ∷ []) $ free1 ! $ move ! (7 ∷ 8 ∷ []) $ free1 ! $ move ! (5 ∷ 6 ∷ []) $ free1 ! $ move !

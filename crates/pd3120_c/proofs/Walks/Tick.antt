@@ -140,7 +140,8 @@ module _ (X Y Z : Plain) (S : Grouped X Y Z) (B : Begun X Y) where
       abbrev pub left-by : S .D → B .D → S .D
       left-by h r = S .make (B .first r) (B .second r) (through r (S .count) (S .items h))
 
-      module _ (follows : (h : S .D) (r : B .D) → length (S .items h) ≡ S .count → P h r → Q h (left-by h r)) (κ : Lft) (q : Share) (b o : ℕ) (γ : GName) (h : S .D) where
+      module _ (follows : (h : S .D) (r : B .D) → length (S .items h) ≡ S .count → P h r → Q h (left-by h r))
+          (κ : Lft) (q : Share) (b o : ℕ) (γ : GName) (h : S .D) where
         abbrev x : RefT (S .D) × Unit {0}
         x = (record { ptr = (b, o); name = γ; now = h }, tt)
 
@@ -337,7 +338,8 @@ module _ (X Y Z : Plain) (S : Grouped X Y Z) (B : Begun X Y) where
               forget ! 22 refl $
               keep ! (0 ∷ 24 ∷ 20 ∷ 18 ∷ 16 ∷ 14 ∷ 12 ∷ 10 ∷ 8 ∷ 6 ∷ 4 ∷ 28 ∷ 26 ∷ 30 ∷ 22 ∷ 1 ∷ 2 ∷ 3 ∷ 31 ∷ 29 ∷ 27 ∷ 25 ∷ 23 ∷ 21 ∷ 19 ∷ 17 ∷ 15 ∷ 13 ∷ 11 ∷ 9
               ∷ 7 ∷ 5 ∷ []) $
-              by ! (loop-walk 𝓣 known r e (related B′ r w isr) (items-are X Y Z S h is .1) l₀ l₁ l₂ l₃ l₄ l₅ l₆ l₇ l₈ l₉ l₁₀ l₁₁ l₁₂ l₁₃ (items-are X Y Z S h is))))))))))))))))))))))
+              by ! (loop-walk 𝓣 known r e (related B′ r w isr) (items-are X Y Z S h is .1) l₀ l₁ l₂ l₃ l₄ l₅ l₆ l₇ l₈ l₉ l₁₀ l₁₁ l₁₂ l₁₃
+              (items-are X Y Z S h is))))))))))))))))))))))
 
       module _ (follows : (h : S .D) (r : B .D) → length (S .items h) ≡ S .count → P h r → Q h (left-by h r)) where
         all-walk : (𝓣 : Tables 𝓤 H) → Triple 𝓤 (𝓣 .C start) (Started P) → Triple 𝓤 (𝓣 .C key) (Called g)

@@ -143,7 +143,8 @@ module _ {n : ℕ} (X Y Z : Plain) (S : Grouped X Y Z) (I : Plain) (J : Input n)
 
       module _ (below : (i : I .D) (a : ℕ) → P₀ i a → a < S .count)
           (few : (s : X .D) (v : Y .D) (c : Z .D) (i : I .D) (j : J .D) (r : B .D) → P₁ s v c i j r → B .count r ≤ S .count)
-          (follows : (h : S .D) (i : I .D) (j : J .D) (a : ℕ) (r : B .D) (u : ℕ) → length (S .items h) ≡ S .count → P₀ i a → P₁ (S .first h) (S .second h) (at-item h a) i j r
+          (follows : (h : S .D) (i : I .D) (j : J .D) (a : ℕ) (r : B .D) (u : ℕ) → length (S .items h) ≡ S .count → P₀ i a
+          → P₁ (S .first h) (S .second h) (at-item h a) i j r
           → P₂ (left-by h a r) (B .number r) u → Q h i j (left-by h a r) u)
           (κ : Lft) (κs : Lfts n) (q : Share) (qs : Shares n) (b o : ℕ) (γ : GName) (h : S .D) (i : I .D) (j : J .D)
           (i-is : Is (row I) i (vals I i)) (j-is : shadow (J .own κs j (J .val j ∷ []))) where
@@ -204,7 +205,8 @@ module _ {n : ℕ} (X Y Z : Plain) (S : Grouped X Y Z) (I : Plain) (J : Input n)
           goes-start : ent 𝓤 (sep 𝓤 Tokens (sem 𝓤 H A Own)) (Started P₁ .pre to-start)
           goes-start =
               qed W (raw Tokens ∷ ‵ Own ∷ []) ∵ nothing ! $ move ! (2 ∷ 0 ∷ []) $ fjoin ! $
-              owned ! (row I) (Is (row I)) (makes I 𝓤 H A) i _ i-is $ fjoin ! $ owned ! (row Z) (Is (row Z)) (makes Z 𝓤 H A) c₀ _ (item-is Z (S .count) (S .items h) (items-are X Y Z S h is) (S .none) a l) $ fjoin ! $
+              owned ! (row I) (Is (row I)) (makes I 𝓤 H A) i _ i-is $ fjoin ! $
+              owned ! (row Z) (Is (row Z)) (makes Z 𝓤 H A) c₀ _ (item-is Z (S .count) (S .items h) (items-are X Y Z S h is) (S .none) a l) $ fjoin ! $
               owned ! (row Y) (Is (row Y)) (makes Y 𝓤 H A) (S .second h) _ (second-is X Y Z S h is) $ fjoin ! $
               owned ! (row X) (Is (row X)) (makes X 𝓤 H A) (S .first h) _ (first-is X Y Z S h is) $ fjoin ! $ move ! (1 ∷ 0 ∷ []) $ join ! $ frame ! $ done !
 
@@ -220,7 +222,8 @@ module _ {n : ℕ} (X Y Z : Plain) (S : Grouped X Y Z) (I : Plain) (J : Input n)
               enter ! (𝓣 .C) (𝓣 .Λ) (fn-of slot start key finish) (vptr b o ∷ I .val i ∷ J .val j ∷ []) _ $
               alloc1 ! (λ l₀. alloc1 ! (λ l₁. alloc1 ! (λ l₂. alloc1 ! (λ l₃. alloc1 ! (λ l₄. alloc1 ! (λ l₅. alloc1 ! (λ l₆. alloc1 ! (λ l₇.
               alloc1 ! (λ l₈. alloc1 ! (λ l₉. alloc1 ! (λ l₁₀. alloc1 ! (λ l₁₁. alloc1 ! (λ l₁₂. alloc1 ! (λ l₁₃. alloc1 ! (λ l₁₄. alloc1 ! (λ l₁₅.
-              alloc1 ! (λ l₁₆. alloc1 ! (λ l₁₇. alloc1 ! (λ l₁₈. alloc1 ! (λ l₁₉. alloc1 ! (λ l₂₀. alloc1 ! (λ l₂₁. alloc1 ! (λ l₂₂. alloc1 ! (λ l₂₃. alloc1 ! (λ l₂₄. alloc0 ! $ params1 ! $
+              alloc1 ! (λ l₁₆. alloc1 ! (λ l₁₇. alloc1 ! (λ l₁₈. alloc1 ! (λ l₁₉. alloc1 ! (λ l₂₀. alloc1 ! (λ l₂₁. alloc1 ! (λ l₂₂.
+              alloc1 ! (λ l₂₃. alloc1 ! (λ l₂₄. alloc0 ! $ params1 ! $
               pass1 ! (init ! 46 refl (tt, tt)) $ pass1 ! (init ! 44 refl (I .typed 𝓤 H A W i i-is)) $ pass1 ! (init ! 42 refl (J .typed 𝓤 H A W κs j j-is)) $
               pass0 ! $
               -- the item's place
@@ -249,8 +252,10 @@ module _ {n : ℕ} (X Y Z : Plain) (S : Grouped X Y Z) (I : Plain) (J : Input n)
               assigns ! (of-opd ! (load ! (from ! (hop ! (look ! 30 refl) (stop !)))
               (look-in ! 0 (elem ! (item-vals Z (S .count) (S .items h) (items-are X Y Z S h is)) a (Z .val (S .none))
               (within Z (S .count) (S .items h) (items-are X Y Z S h is) (S .none) a (below i a p₀)) (long Z (S .count) (S .items h) (items-are X Y Z S h is))
-              (sub ! 2 refl (whole !)))))) (from ! (stop !)) (init ! 28 refl (item-typed Z (S .count) (S .items h) (items-are X Y Z S h is) (S .none) a (below i a p₀) 𝓤 H A W)) $
-              rewrite ! 28 (λ (u : Val). ‵ (fat fullShare (Z .mir) l₁₂ 0 u)) (item-val Z (S .count) (S .items h) (items-are X Y Z S h is) (S .none) a (below i a p₀)) refl $
+              (sub ! 2 refl (whole !)))))) (from ! (stop !))
+              (init ! 28 refl (item-typed Z (S .count) (S .items h) (items-are X Y Z S h is) (S .none) a (below i a p₀) 𝓤 H A W)) $
+              rewrite ! 28 (λ (u : Val). ‵ (fat fullShare (Z .mir) l₁₂ 0 u))
+              (item-val Z (S .count) (S .items h) (items-are X Y Z S h is) (S .none) a (below i a p₀)) refl $
               move ! (55 ∷ 54 ∷ []) $ use2 W (raw (Started P₁ .pre (to-start a (below i a p₀) is))) (goes-start a (below i a p₀) is) $
               calls-at ! (fmOf 𝓤 H (W .laws) 𝓣) (Started P₁) starts (to-start a (below i a p₀) is) (and-then ! (load ! (from ! (stop !)) (look ! 39 refl))
               (and-then ! (load ! (from ! (stop !)) (look ! 37 refl)) (and-then ! (load ! (from ! (stop !)) (look ! 29 refl))
@@ -283,8 +288,10 @@ module _ {n : ℕ} (X Y Z : Plain) (S : Grouped X Y Z) (I : Plain) (J : Input n)
               (vstruct (vcons (X .val (B .first r)) (vcons (Y .val (B .second r)) (vcons (vstruct (ofList ws)) vnil))))))
               (moved Z (S .items h) a (B .item r)) refl $
               assigns ! (of-opd ! (lit ! tt)) (from ! (stop !)) (init ! 41 refl (tt, record { fits = lit< tt })) $
-              forget ! 49 refl $ forget ! 47 refl $ forget ! 45 refl $ forget ! 39 refl $ forget ! 37 refl $ forget ! 35 refl $ forget ! 33 refl $ forget ! 31 refl $ forget ! 29 refl $ forget ! 27 refl $ forget ! 25 refl $
-              keep ! (0 ∷ 41 ∷ 23 ∷ 21 ∷ 19 ∷ 17 ∷ 15 ∷ 13 ∷ 11 ∷ 9 ∷ 7 ∷ 51 ∷ 43 ∷ 53 ∷ 5 ∷ 49 ∷ 47 ∷ 45 ∷ 39 ∷ 37 ∷ 35 ∷ 33 ∷ 31 ∷ 29 ∷ 27 ∷ 25 ∷ 1 ∷ 2 ∷ 3 ∷ 4 ∷ 55 ∷ 54 ∷ 52 ∷ 50
+              forget ! 49 refl $ forget ! 47 refl $ forget ! 45 refl $ forget ! 39 refl $ forget ! 37 refl $ forget ! 35 refl $ forget ! 33 refl $
+              forget ! 31 refl $ forget ! 29 refl $ forget ! 27 refl $ forget ! 25 refl $
+              keep ! (0 ∷ 41 ∷ 23 ∷ 21 ∷ 19 ∷ 17 ∷ 15 ∷ 13 ∷ 11 ∷ 9 ∷ 7 ∷ 51 ∷ 43 ∷ 53 ∷ 5 ∷ 49 ∷ 47 ∷ 45 ∷ 39 ∷ 37 ∷ 35 ∷ 33 ∷ 31 ∷ 29 ∷ 27 ∷ 25 ∷ 1 ∷ 2
+              ∷ 3 ∷ 4 ∷ 55 ∷ 54 ∷ 52 ∷ 50
               ∷ 48 ∷ 46 ∷ 44 ∷ 42 ∷ 40 ∷ 38 ∷ 36 ∷ 34 ∷ 32 ∷ 30 ∷ 28 ∷ 26 ∷ 24 ∷ 22 ∷ 20 ∷ 18 ∷ 16 ∷ 14 ∷ 12 ∷ 10 ∷ 8 ∷ 6 ∷ []) $
               by ! (loop-walk X Y Z S B 𝓤 H A W key finish g P₂ (I .mir) (J .mir-out) κ q b o γ h Tokens Own Post r (related B′ r w′ isr) (few _ _ _ i j r p₁)
               (set (S .items h) a (B .item r)) (λ u e. exits a r u (follows h i j a r u (items-are X Y Z S h is .1) p₀ p₁ e)) 𝓣 known finishes
@@ -293,7 +300,8 @@ module _ {n : ℕ} (X Y Z : Plain) (S : Grouped X Y Z) (I : Plain) (J : Input n)
 
       module _ (below : (i : I .D) (a : ℕ) → P₀ i a → a < S .count)
           (few : (s : X .D) (v : Y .D) (c : Z .D) (i : I .D) (j : J .D) (r : B .D) → P₁ s v c i j r → B .count r ≤ S .count)
-          (follows : (h : S .D) (i : I .D) (j : J .D) (a : ℕ) (r : B .D) (u : ℕ) → length (S .items h) ≡ S .count → P₀ i a → P₁ (S .first h) (S .second h) (at-item h a) i j r
+          (follows : (h : S .D) (i : I .D) (j : J .D) (a : ℕ) (r : B .D) (u : ℕ) → length (S .items h) ≡ S .count → P₀ i a
+          → P₁ (S .first h) (S .second h) (at-item h a) i j r
           → P₂ (left-by h a r) (B .number r) u → Q h i j (left-by h a r) u) where
         all-walk : (𝓣 : Tables 𝓤 H) → Triple 𝓤 (𝓣 .C slot) (Found P₀) → Triple 𝓤 (𝓣 .C start) (Started P₁) → Triple 𝓤 (𝓣 .C key) (Called X Y Z S B 𝓤 H A g)
             → Triple 𝓤 (𝓣 .C finish) (Finished X Y Z S B 𝓤 H A P₂) → Walks 𝓤 H A outer stayed (WpFn 𝓤 H (𝓣 .C) (𝓣 .Λ) (fn-of slot start key finish)) (exported Q)

@@ -204,7 +204,8 @@ module _ (X Y Z : Plain) (S : Grouped X Y Z) (B : Opened X Y Z) where
                 assigns ! (bin ! (load ! (from ! (stop !)) (look ! 5 refl)) (load ! (from ! (stop !)) (look ! 4 refl)) tt) (from ! (stop !))
                 (init ! 6 refl (tt, tt)) $
                 assigns ! (of-opd ! (load ! (from ! (hop ! (look ! 6 refl) (stop !)))
-                (look-in ! 0 (elem ! (item-vals Z (S .count) cs good) k (Z .val (S .none)) (within Z (S .count) cs good (S .none) k in-all) (long Z (S .count) cs good)
+                (look-in ! 0 (elem ! (item-vals Z (S .count) cs good) k (Z .val (S .none)) (within Z (S .count) cs good (S .none) k in-all)
+                (long Z (S .count) cs good)
                 (sub ! 2 refl (whole !)))))) (from ! (stop !)) (init ! 7 refl (item-typed Z (S .count) cs good (S .none) k in-all 𝓤 H A W)) $
                 rewrite ! 7 (λ (u : Val). ‵ (fat fullShare (Z .mir) l₂₀ 0 u)) (item-val Z (S .count) cs good (S .none) k in-all) refl $
                 use0 W (raw (Called g .pre to-call)) goes-call $
@@ -222,7 +223,8 @@ module _ (X Y Z : Plain) (S : Grouped X Y Z) (B : Opened X Y Z) where
                 assigns ! (bin ! (load ! (from ! (stop !)) (look ! 9 refl)) (load ! (from ! (stop !)) (look ! 8 refl)) tt) (from ! (stop !))
                 (init ! 10 refl (tt, tt)) $
                 assigns ! (of-opd ! (load ! (from ! (stop !)) (look ! 3 refl))) (from ! (hop ! (look ! 10 refl) (stop !)))
-                (store-in ! 0 (elem ! (item-vals Z (S .count) cs good) k (Z .val (S .none)) (within Z (S .count) cs good (S .none) k in-all) (long Z (S .count) cs good)
+                (store-in ! 0 (elem ! (item-vals Z (S .count) cs good) k (Z .val (S .none)) (within Z (S .count) cs good (S .none) k in-all)
+                (long Z (S .count) cs good)
                 (sub ! 2 refl (whole !))) (Z .typed 𝓤 H A W z (related Z z w isz))) $
                 rewrite ! 0 (λ (ws : List Val). ‵ (fat fullShare (S′ .mir) b o
                 (vstruct (vcons (X .val (B .first r)) (vcons (Y .val (B .second r)) (vcons (vstruct (ofList ws)) vnil)))))) (moved Z cs k z) refl $
