@@ -1,23 +1,38 @@
--- A tick in its two parts is the tick: what it begins with, and each channel by itself. Assumes nothing.
-use mathlib.Core.Path.{_≡_, ap}
-use mathlib.Core.Bool.{Bool}
+-- A tick in its two parts is the tick: what it begins with, and each channel by itself. A tick that does not look at the feedback needs no InFlags.
+-- Assumes nothing.
+use mathlib.Core.Path.{_≡_, refl, ap}
+use mathlib.Core.Bool.{Bool, true, false, cond}
 use mathlib.Core.List.{List, map}
+use Prim.Native.Nat.{ℕ}
 use lib.ListN.{length, length-map}
+use Rattle.model.specs.declared.Channel.{Channel}
 use Rattle.model.specs.declared.Module.{Module}
-use Rattle.model.specs.State.{inFlag}
-use Rattle.model.specs.Tick.{channelTicked, ticked}
+use Rattle.model.specs.declared.Shared.{Shared}
+use Rattle.model.specs.State.{inFlag, setFBStatus}
+use Rattle.model.specs.Errors.{wordOf}
+use Rattle.model.specs.Tick.{driven, lookDue, feedbackWrong, operated, looked, judged, saved, reviewed, ticked}
+use Rattle.settings.specs.Levels.{levelsOf}
 use Rattle.settings.proofs.Laws.Levels.{levels-shown}
 use Rattle.ticks.specs.Begun.{begunOf, tickedBy}
 
+module _ (s : Shared) (ranOut due : Bool) where
+  -- a channel's tick, which looks or does not
+  abbrev by-look : Bool → List Bool → Channel → Channel
+  by-look looks levels ch =
+      let x = driven s ranOut ch in
+      saved due (judged s (cond looks (operated (setFBStatus (feedbackWrong levels x) x)) x))
+
+  where-due : (looks : Bool) (w : ℕ) (levels : List Bool) (cs : List Channel) → levelsOf w ≡ levels
+      → map (by-look looks (levelsOf (cond looks w 0))) cs ≡ map (by-look looks levels) cs
+  where-due true w levels cs e = ap (λ (l : List Bool). map (by-look true l) cs) e
+  where-due false w levels cs e = refl
+
 pub whole : (m : Module) → length (m .channels) ≡ 16
     → record { shared = begunOf m .shared; service = begunOf m .service; channels = map (tickedBy (begunOf m)) (m .channels) } ≡ ticked m
-unfolding begunOf tickedBy ticked
+unfolding begunOf tickedBy ticked reviewed looked
 whole m l =
     let b = begunOf m in
+    let s = b .shared in
     let shown = levels-shown (map inFlag (m .channels)) (rw length-map l) in
-    ap (λ (levels : List Bool).
-    record {
-      shared = b .shared;
-      service = b .service;
-      channels = map (channelTicked (b .shared) (b .«ran_out») (b .due) levels) (m .channels);
-    }) shown
+    ap (λ (cs : List Channel). record { shared = s; service = b .service; channels = cs })
+    (where-due s (b .«ran_out») (b .due) (lookDue s) (wordOf (map inFlag (m .channels))) (map inFlag (m .channels)) (m .channels) shown)

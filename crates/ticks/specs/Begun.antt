@@ -1,23 +1,25 @@
 -- A tick in two parts: what it has worked out when it comes to the channels, and what that makes of each channel. Definitions only.
+use mathlib.Core.Bool.{cond}
 use mathlib.Core.List.{map}
 use Rattle.model.specs.declared.Channel.{Channel}
 use Rattle.model.specs.declared.Module.{Module}
 use Rattle.model.specs.State.{inFlag, wdTimer}
 use Rattle.model.specs.Errors.{wordOf}
-use Rattle.model.specs.Tick.{saveDue, tickShared, runsOut, tickService, channelTicked}
+use Rattle.model.specs.Tick.{lookDue, saveDue, tickShared, runsOut, tickService, channelTicked}
 use Rattle.settings.specs.Levels.{levelsOf}
 use Rattle.ticks.specs.declared.Begun.{Begun}
 
--- the records after step 1, and the rest by the box as the tick found it
+-- the records after step 1, and the rest by the box as the tick found it; the InFlags where the tick looks at the feedback
 unfoldable pub begunOf : Module → Begun
 begunOf m =
+    let s = tickShared (m .shared) in
     let ranOut = runsOut (m .shared) (wdTimer (m .service)) in
     record {
-      shared = tickShared (m .shared);
+      shared = s;
       service = tickService ranOut (m .service);
       «ran_out» = ranOut;
       due = saveDue (m .shared);
-      levels = wordOf (map inFlag (m .channels));
+      levels = cond (lookDue s) (wordOf (map inFlag (m .channels))) 0;
     }
 
 -- one channel: off where the watchdog ran out, then steps 2 to 7

@@ -1,10 +1,11 @@
 // The whole tick, 1/32 s: it begins with step 1 on the shared record and the watchdog, and then goes
 // over the channels, each by itself against the InFlags of the tick's start.
 ghost use mathlib.Core.Path.{_≡_};
+ghost use mathlib.Core.Bool.{cond};
 ghost use mathlib.Core.List.{map};
 ghost use Rattle.model.specs.State.{inFlag};
 ghost use Rattle.model.specs.Errors.{bitValue, wordOf};
-ghost use Rattle.model.specs.Tick.{saveDue, tickShared, watchdogOn, isZero, runsOut, tickService, channelTicked, ticked};
+ghost use Rattle.model.specs.Tick.{lookDue, saveDue, tickShared, watchdogOn, isZero, runsOut, tickService, channelTicked, ticked};
 ghost use Rattle.settings.specs.Levels.{levelsOf};
 ghost use Rattle.ticks.specs.Begun.{begunOf, tickedBy};
 ghost use Rattle.ticks.specs.PutBack.{putBack};
@@ -15,8 +16,8 @@ use model::Service;
 use model::Shared;
 
 // What a tick has worked out when it comes to the channels: the shared record and the service record
-// after step 1, whether the watchdog ran out, whether the tick saves, and the InFlags, bit k-1 for
-// channel k.
+// after step 1, whether the watchdog ran out, whether the tick saves, and, where it looks at the
+// feedback, the InFlags, bit k-1 for channel k.
 pub struct Begun {
     pub shared: Shared,
     pub service: Service,
@@ -101,6 +102,16 @@ pub fn levels(channels: [Channel; 16]) -> u16
     r
 }
 
+// The InFlags, where the tick looks at them. s is the shared record after step 1.
+fn levels_looked_at(s: Shared, channels: [Channel; 16]) -> u16
+    ensures { λ r. ⌜ r ≡ cond (lookDue s) (wordOf (map inFlag channels)) 0 ⌝ }
+{
+    if review::look_due(s) {
+        return levels(channels);
+    }
+    0
+}
+
 // Step 1, and what the channels will need of the box as the tick found it.
 pub fn begin(m: Module) -> Begun
     ensures { λ r. ⌜ r ≡ begunOf m ⌝ }
@@ -115,7 +126,7 @@ pub fn begin(m: Module) -> Begun
         service: tick_service(ran_out, service),
         ran_out: ran_out,
         due: save_due(before),
-        levels: levels(channels),
+        levels: levels_looked_at(after, channels),
     }
 }
 
@@ -131,6 +142,7 @@ fn tick_channel(s: Shared, ran_out: bool, due: bool, levels: u16, ch: Channel) -
 fn put_back(after: Channel, ch: Channel) -> Channel
     ensures { λ r. ⌜ r ≡ putBack after ch ⌝ }
 {
+    let flags = after.flags;
     let out = after.out_timer;
     let feedback = after.fb_timer;
     let operating = after.operating;
@@ -140,10 +152,7 @@ fn put_back(after: Channel, ch: Channel) -> Channel
     kept.counter = saved.counter;
     kept.operating = saved_operating;
     let mut next = ch;
-    next.flags.out_flag = after.flags.out_flag;
-    next.flags.control = after.flags.control;
-    next.flags.fb_status = after.flags.fb_status;
-    next.flags.internal_state = after.flags.internal_state;
+    next.flags = flags;
     next.out_timer = out;
     next.fb_timer = feedback;
     next.errors.act.0 = after.errors.act.0;

@@ -1,15 +1,19 @@
--- `shut_down` meets its contract. Assumes nothing.
+-- `shut_down` meets its contract: a flag that must be off where the watchdog ran out. Assumes nothing.
+use mathlib.Core.Path.{_≡_, ap₂}
+use mathlib.Core.Bool.{Bool, true, false, not, _&&_, and-true, and-false}
+use Rattle.model.specs.declared.Channel.{Channel}
+use Rattle.model.specs.State.{outFlag, control, setOutFlag, setControl}
 use Rattle.model.specs.Tick.{shutDown}
 use Rattle.drive.proofs.shut_down.Statement.{statement}
 use Rattle.drive.proofs.shut_down.Tie as tie
 
-returns : tie.Need-returns
+unless : (ranOut : Bool) (ch : Channel) → setOutFlag (outFlag ch && not ranOut) (setControl (control ch && not ranOut) ch) ≡ shutDown ranOut ch
 unfolding shutDown
-returns c = simp (c .before .before .if1 .taken)
+unless true ch = ap₂ (λ (o c : Bool). setOutFlag o (setControl c ch)) (and-false (outFlag ch)) (and-false (control ch))
+unless false ch = ap₂ (λ (o c : Bool). setOutFlag o (setControl c ch)) (and-true (outFlag ch)) (and-true (control ch))
 
-returns-2 : tie.Need-returns-2
-unfolding shutDown
-returns-2 c = simp (c .if1 .left)
+returns : tie.Need-returns
+returns c = let a = c .before .before .before .before .args in unless (a .ran-out) (a .ch)
 
 pub shut-down-spec : {M : Type 1} → statement M
-shut-down-spec = tie.close (tie.spec returns returns-2)
+shut-down-spec = tie.close (tie.spec returns)

@@ -1,4 +1,4 @@
--- What a tick leaves of a channel, rule by rule: its settings, InFlag, presets, currents, Counter, the user's registers, and the kept register 5. So the
+-- What a tick leaves of a channel, rule by rule: its settings, presets, currents, Counter, the user's registers, and the kept register 5. So the
 -- channel after a tick is the one before it with the other parts put back. Assumes nothing.
 use mathlib.Core.Path.{_≡_, refl, sym, ap, _∙_}
 use mathlib.Core.Bool.{Bool, not, _&&_, Bool·beq}
@@ -13,7 +13,7 @@ use Rattle.model.specs.declared.Function.{Function}
 use Rattle.model.specs.declared.Channel.{Channel}
 use Rattle.model.specs.declared.Shared.{Shared}
 use Rattle.model.specs.declared.Function.the-variants.{Input, Output, OneShot, DutyCycle, Timer}
-use Rattle.model.specs.State.{channelWith, flagsOf, outFlag, inFlag, control, fbStatus, internalState, outTimer, fbTimer, outPreset, fbPreset, setFBStatus}
+use Rattle.model.specs.State.{channelWith, outFlag, inFlag, control, outTimer, fbTimer, outPreset, fbPreset, setFBStatus}
 use Rattle.model.specs.Settings.{functions, silencesOverload}
 use Rattle.model.specs.Channel.{changed, tripped}
 use Rattle.model.specs.Tick as Tick
@@ -22,7 +22,6 @@ use Rattle.ticks.specs.PutBack.{putBack}
 
 record Rest : Type 0 where
   config : Config
-  level : Bool
   out-preset : TimerCount
   fb-preset : TimerCount
   currents : Currents
@@ -36,7 +35,6 @@ abbrev rest : Channel → Rest
 rest ch =
     record {
       config = ch .config;
-      level = inFlag ch;
       out-preset = outPreset ch;
       fb-preset = fbPreset ch;
       currents = ch .currents;
@@ -50,8 +48,7 @@ rest ch =
 -- a channel with these parts
 abbrev with-rest : Rest → Channel → Channel
 with-rest x ch =
-    channelWith (x .config) (flagsOf (outFlag ch) (x .level) (control ch) (fbStatus ch) (internalState ch)) (outTimer ch) (fbTimer ch)
-    (x .out-preset) (x .fb-preset) (x .currents) (ch .errors) (x .counter) (ch .operating) (x .user) (x .reals) (x .maintenance)
+    channelWith (x .config) (ch .flags) (outTimer ch) (fbTimer ch) (x .out-preset) (x .fb-preset) (x .currents) (ch .errors) (x .counter) (ch .operating) (x .user) (x .reals) (x .maintenance)
     (record { counter = ch .kept .counter; operating = ch .kept .operating; user = x .kept-user })
 
 put-back : (after ch : Channel) → rest after ≡ rest ch → putBack after ch ≡ after

@@ -16,13 +16,13 @@ tick-service-requires c κs = search needs
 save-due-requires : tie.Need-save-due-requires
 save-due-requires c κs = search needs
 
-levels-requires : tie.Need-levels-requires
-levels-requires c κs = search needs
+levels-looked-at-requires : tie.Need-levels-looked-at-requires
+levels-looked-at-requires c κs = search needs
 
 returns : tie.Need-returns
 unfolding begunOf
 returns c = simp (
-  c .levels .ensures,
+  c .levels-looked-at .ensures,
   c .before .save-due .ensures,
   c .before .before .tick-service .ensures,
   c .before .before .before .tick-shared .ensures,
@@ -37,5 +37,5 @@ begin-spec =
     tick-shared-requires
     tick-service-requires
     save-due-requires
-    levels-requires
+    levels-looked-at-requires
     returns)

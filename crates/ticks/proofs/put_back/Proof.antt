@@ -9,7 +9,7 @@ use Rattle.ticks.proofs.put_back.Tie as tie
 returns : tie.Need-returns
 unfolding putBack
 returns c =
-    let a = c .before .before .before .before .before .before .before .before .before .before .before .before .before .args in
+    let a = c .before .before .before .before .before .before .before .before .before .before .args in
     simp (toZ-ofZ {w = w32} {z = a .after .kept .counter} (search needs))
 
 pub put-back-spec : {M : Type 1} → statement M
