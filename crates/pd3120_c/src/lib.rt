@@ -114,6 +114,8 @@ pub extern "C" fn pd3120_current(m: &mut Module, channel: u8, amperes: f32) -> u
     done.code
 }
 
+// The save is a loop of its own, so that the ticks without it, all but one in ten hours, do not touch
+// the kept values.
 #[no_mangle]
 pub extern "C" fn pd3120_tick(m: &mut Module)
     ensures { λ _. ⌜ Ticked (now (m .entry)) (now (m .exit)) ⌝ }
@@ -124,6 +126,11 @@ pub extern "C" fn pd3120_tick(m: &mut Module)
     let mut k = 0;
     while k < 16 {
         m.channels[k] = ticks::tick_one(begun, m.channels[k]);
+        k += 1;
+    }
+    k = 0;
+    while k < begun.count {
+        m.channels[k] = review::keep(m.channels[k]);
         k += 1;
     }
 }

@@ -10,7 +10,7 @@ use Rattle.model.specs.declared.Module.{Module}
 use Rattle.model.specs.declared.Shared.{Shared}
 use Rattle.model.specs.State.{inFlag, setFBStatus}
 use Rattle.model.specs.Errors.{wordOf}
-use Rattle.model.specs.Tick.{driven, lookDue, feedbackWrong, operated, looked, judged, saved, reviewed, ticked}
+use Rattle.model.specs.Tick.{driven, lookDue, feedbackWrong, operated, looked, judged, saveDue, saved, reviewed, ticked}
 use Rattle.settings.specs.Levels.{levelsOf}
 use Rattle.settings.proofs.Laws.Levels.{levels-shown}
 use Rattle.ticks.specs.Begun.{begunOf, tickedBy}
@@ -28,11 +28,16 @@ module _ (s : Shared) (ranOut due : Bool) where
   where-due false w levels cs e = refl
 
 pub whole : (m : Module) → length (m .channels) ≡ 16
-    → record { shared = begunOf m .shared; service = begunOf m .service; channels = map (tickedBy (begunOf m)) (m .channels) } ≡ ticked m
+    → record {
+      shared = begunOf m .shared;
+      service = begunOf m .service;
+      channels = map (λ ch. saved (saveDue (m .shared)) (tickedBy (begunOf m) ch)) (m .channels);
+    }
+    ≡ ticked m
 unfolding begunOf tickedBy ticked reviewed looked
 whole m l =
     let b = begunOf m in
     let s = b .shared in
     let shown = levels-shown (map inFlag (m .channels)) (rw length-map l) in
     ap (λ (cs : List Channel). record { shared = s; service = b .service; channels = cs })
-    (where-due s (b .«ran_out») (b .due) (lookDue s) (wordOf (map inFlag (m .channels))) (map inFlag (m .channels)) (m .channels) shown)
+    (where-due s (b .«ran_out») (saveDue (m .shared)) (lookDue s) (wordOf (map inFlag (m .channels))) (map inFlag (m .channels)) (m .channels) shown)

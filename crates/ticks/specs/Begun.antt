@@ -5,11 +5,11 @@ use Rattle.model.specs.declared.Channel.{Channel}
 use Rattle.model.specs.declared.Module.{Module}
 use Rattle.model.specs.State.{inFlag, wdTimer}
 use Rattle.model.specs.Errors.{wordOf}
-use Rattle.model.specs.Tick.{lookDue, saveDue, tickShared, runsOut, tickService, channelTicked}
+use Rattle.model.specs.Tick.{saveDue, tickShared, runsOut, tickService, driven, lookDue, looked, judged}
 use Rattle.settings.specs.Levels.{levelsOf}
 use Rattle.ticks.specs.declared.Begun.{Begun}
 
--- the records after step 1, and the rest by the box as the tick found it; the InFlags where the tick looks at the feedback
+-- the records after step 1, and the rest by the box as the tick found it: all channels are saved or none; the InFlags where the tick looks at the feedback
 unfoldable pub begunOf : Module → Begun
 begunOf m =
     let s = tickShared (m .shared) in
@@ -17,11 +17,11 @@ begunOf m =
     record {
       shared = s;
       service = tickService ranOut (m .service);
+      count = cond (saveDue (m .shared)) 16 0;
       «ran_out» = ranOut;
-      due = saveDue (m .shared);
       levels = cond (lookDue s) (wordOf (map inFlag (m .channels))) 0;
     }
 
--- one channel: off where the watchdog ran out, then steps 2 to 7
+-- one channel: off where the watchdog ran out, then steps 2 to 6
 unfoldable pub tickedBy : Begun → Channel → Channel
-tickedBy b ch = channelTicked (b .shared) (b .«ran_out») (b .due) (levelsOf (b .levels)) ch
+tickedBy b ch = judged (b .shared) (looked (b .shared) (levelsOf (b .levels)) (driven (b .shared) (b .«ran_out») ch))

@@ -1,10 +1,9 @@
--- The parts of a channel that a tick can change, put back into the channel that it began with. Definitions only.
+-- The parts of a channel that steps 2 to 6 of a tick can change, put back into the channel that it began with. Definitions only.
 use Rattle.model.specs.declared.Channel.{Channel}
 use Rattle.model.specs.State.{channelWith, outTimer, fbTimer, outPreset, fbPreset}
 
--- from `after`: the flags, OutTimer, FBTimer, the errors, the operating time, and what is kept of registers 2 and 4; from `ch`: all else
+-- from `after`: the flags, OutTimer, FBTimer, the errors, the operating time; from `ch`: all else
 unfoldable pub putBack : Channel → Channel → Channel
 putBack after ch =
     channelWith (ch .config) (after .flags) (outTimer after) (fbTimer after) (outPreset ch) (fbPreset ch) (ch .currents) (after .errors) (ch .counter) (after .operating)
-    (ch .user) (ch .reals) (ch .maintenance)
-    (record { counter = after .kept .counter; operating = after .kept .operating; user = ch .kept .user })
+    (ch .user) (ch .reals) (ch .maintenance) (ch .kept)

@@ -5,7 +5,7 @@ ghost use mathlib.Core.Bool.{cond};
 ghost use mathlib.Core.List.{map};
 ghost use Rattle.model.specs.State.{inFlag};
 ghost use Rattle.model.specs.Errors.{bitValue, wordOf};
-ghost use Rattle.model.specs.Tick.{lookDue, saveDue, tickShared, watchdogOn, isZero, runsOut, tickService, channelTicked, ticked};
+ghost use Rattle.model.specs.Tick.{saveDue, tickShared, watchdogOn, isZero, runsOut, tickService, driven, lookDue, looked, judged, saved, ticked};
 ghost use Rattle.settings.specs.Levels.{levelsOf};
 ghost use Rattle.ticks.specs.Begun.{begunOf, tickedBy};
 ghost use Rattle.ticks.specs.PutBack.{putBack};
@@ -16,13 +16,13 @@ use model::Service;
 use model::Shared;
 
 // What a tick has worked out when it comes to the channels: the shared record and the service record
-// after step 1, whether the watchdog ran out, whether the tick saves, and, where it looks at the
-// feedback, the InFlags, bit k-1 for channel k.
+// after step 1, how many channels it saves in the end (all or none), whether the watchdog ran out,
+// and, where it looks at the feedback, the InFlags, bit k-1 for channel k.
 pub struct Begun {
     pub shared: Shared,
     pub service: Service,
+    pub count: usize,
     pub ran_out: bool,
-    pub due: bool,
     pub levels: u16,
 }
 
@@ -112,6 +112,12 @@ fn levels_looked_at(s: Shared, channels: [Channel; 16]) -> u16
     0
 }
 
+fn count_if(due: bool) -> usize
+    ensures { λ r. ⌜ r ≡ cond due 16 0 ⌝ }
+{
+    if due { 16 } else { 0 }
+}
+
 // Step 1, and what the channels will need of the box as the tick found it.
 pub fn begin(m: Module) -> Begun
     ensures { λ r. ⌜ r ≡ begunOf m ⌝ }
@@ -124,21 +130,21 @@ pub fn begin(m: Module) -> Begun
     Begun {
         shared: after,
         service: tick_service(ran_out, service),
+        count: count_if(save_due(before)),
         ran_out: ran_out,
-        due: save_due(before),
         levels: levels_looked_at(after, channels),
     }
 }
 
-// The two halves of the tick on one channel.
-fn tick_channel(s: Shared, ran_out: bool, due: bool, levels: u16, ch: Channel) -> Channel
-    ensures { λ r. ⌜ r ≡ channelTicked s «ran_out» due (levelsOf levels) ch ⌝ }
+// Steps 2 to 6 on one channel, which is off where the watchdog ran out.
+fn tick_channel(s: Shared, ran_out: bool, levels: u16, ch: Channel) -> Channel
+    ensures { λ r. ⌜ r ≡ judged s (looked s (levelsOf levels) (driven s «ran_out» ch)) ⌝ }
 {
-    review::review(s, due, levels, drive::drive(s, ran_out, ch))
+    review::review(s, levels, drive::drive(s, ran_out, ch))
 }
 
-// Takes from the channel after a tick only the parts that a tick can change, so that a caller who
-// writes the result over ch has only these to write.
+// Takes from the channel after steps 2 to 6 only the parts that these can change, so that a caller
+// who writes the result over ch has only these to write.
 fn put_back(after: Channel, ch: Channel) -> Channel
     ensures { λ r. ⌜ r ≡ putBack after ch ⌝ }
 {
@@ -146,11 +152,6 @@ fn put_back(after: Channel, ch: Channel) -> Channel
     let out = after.out_timer;
     let feedback = after.fb_timer;
     let operating = after.operating;
-    let saved = after.kept;
-    let saved_operating = saved.operating;
-    let mut kept = ch.kept;
-    kept.counter = saved.counter;
-    kept.operating = saved_operating;
     let mut next = ch;
     next.flags = flags;
     next.out_timer = out;
@@ -158,26 +159,25 @@ fn put_back(after: Channel, ch: Channel) -> Channel
     next.errors.act.0 = after.errors.act.0;
     next.errors.his.0 = after.errors.his.0;
     next.operating = operating;
-    next.kept = kept;
     next
 }
 
-// One channel: off where the watchdog ran out, then steps 2 to 7.
+// One channel, up to step 6.
 pub fn tick_one(b: Begun, ch: Channel) -> Channel
     ensures { λ r. ⌜ r ≡ tickedBy b ch ⌝ }
 {
     let s = b.shared;
-    put_back(tick_channel(s, b.ran_out, b.due, b.levels, ch), ch)
+    put_back(tick_channel(s, b.ran_out, b.levels, ch), ch)
 }
 
-// From channel 1 to 16.
-fn tick_channels(b: Begun, channels: [Channel; 16]) -> [Channel; 16]
-    ensures { λ r. ⌜ r ≡ map (tickedBy b) channels ⌝ }
+// From channel 1 to 16, each with step 7.
+fn tick_channels(b: Begun, due: bool, channels: [Channel; 16]) -> [Channel; 16]
+    ensures { λ r. ⌜ r ≡ map (λ ch. saved due (tickedBy b ch)) channels ⌝ }
 {
     let mut next = channels;
     for k in 0..16 {
         let ch = next[k];
-        let after = tick_one(b, ch);
+        let after = review::save(due, tick_one(b, ch));
         next[k] = after;
     }
     next
@@ -187,12 +187,13 @@ pub fn tick(m: Module) -> Module
     ensures { λ r. ⌜ r ≡ ticked m ⌝ }
 {
     let b = begin(m);
+    let due = save_due(m.shared);
     let shared = b.shared;
     let service = b.service;
     let channels = m.channels;
     Module {
         shared: shared,
         service: service,
-        channels: tick_channels(b, channels),
+        channels: tick_channels(b, due, channels),
     }
 }

@@ -1,5 +1,5 @@
 -- Plain structs that begin with a first and a second value, as what a call works out before it comes to the items does: what a walk uses of them.
---     Begun X Y        such a struct; what else it holds is not looked at.        begun        the struct as a plain type
+--     Begun X Y        such a struct that goes on with a count; what else it holds is not looked at.        begun        the struct as a plain type
 --     Opened X Y Z     one that goes on with an item, a count and a u8.        opened       the struct as a plain type
 -- Assumes nothing.
 use mathlib.Core.Path.{_≡_}
@@ -28,10 +28,12 @@ module _ (X Y : Plain) where
     pub coded : Coded D
     pub first : D → X .D
     pub second : D → Y .D
+    pub count : D → ℕ
     pub rest : D → Vals
-    pub tells : (x : D) (vs : List Val) → shadow (own x vs) → vs ≡ vstruct (vcons (X .val (first x)) (vcons (Y .val (second x)) (rest x))) ∷ []
+    pub tells : (x : D) (vs : List Val) → shadow (own x vs)
+        → vs ≡ vstruct (vcons (X .val (first x)) (vcons (Y .val (second x)) (vcons (vint w64 (count x)) (rest x)))) ∷ []
     pub typed : {M : Type 1} (𝓤 : URA M) (H : Heap 𝓤) (A : Atoms 𝓤) → Given 𝓤 H A → (x : D) (v : Val) → shadow (own x (v ∷ []))
-        → T (hasTy (tyStruct name (tcons (X .mir) (tcons (Y .mir) more))) v) × WT v
+        → T (hasTy (tyStruct name (tcons (X .mir) (tcons (Y .mir) (tcons (tyInt w64) more)))) v) × WT v
     pub pure : (x : D) (vs : List Val) → Pure (own x vs)
     pub fields : (x : D) (vs : List Val) → shadow (own x vs) → shadow (X .own (first x) (X .val (first x) ∷ []))
         × shadow (Y .own (second x) (Y .val (second x) ∷ []))
@@ -39,12 +41,12 @@ module _ (X Y : Plain) where
   abbrev pub begun : Begun → Plain
   begun B = record {
     D = B .D;
-    mir = tyStruct (B .name) (tcons (X .mir) (tcons (Y .mir) (B .more)));
+    mir = tyStruct (B .name) (tcons (X .mir) (tcons (Y .mir) (tcons (tyInt w64) (B .more))));
     written = B .written;
     reaches = B .reaches;
     own = B .own;
     coded = B .coded;
-    val = λ x. vstruct (vcons (X .val (B .first x)) (vcons (Y .val (B .second x)) (B .rest x)));
+    val = λ x. vstruct (vcons (X .val (B .first x)) (vcons (Y .val (B .second x)) (vcons (vint w64 (B .count x)) (B .rest x))));
     tells = B .tells;
     typed = λ 𝓤 H A W x p. B .typed 𝓤 H A W x _ p;
     pure = B .pure;

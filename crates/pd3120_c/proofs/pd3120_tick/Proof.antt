@@ -2,19 +2,25 @@
 use contract.Running.{givenOf, tables, tablesOf}
 use denote.Triple.Spec.{tripleOf}
 use denote.Triple.Table.{entered, cited}
-use mathlib.Core.Path.{_≡_, ap, _∙_}
-use mathlib.Core.List.{List}
-use lib.ListN.{length}
+use mathlib.Core.Path.{_≡_, sym, ap, _∙_, subst}
+use mathlib.Core.Bool.{true}
+use mathlib.Core.List.{List, map}
+use Prim.Native.Nat.{ℕ, _≤_}
+use native.Mathlib.Omega.{arith}
+use lib.ListN.{length, length-map}
 use Rattle.model.specs.declared.Channel.{Channel}
 use Rattle.model.specs.declared.Module.{Module}
 use Rattle.model.specs.Calls.{step}
+use Rattle.model.specs.Tick.{saveDue, saved}
+use Rattle.model.proofs.Laws.Tests.{either}
 use Rattle.ticks.specs.declared.Begun.{Begun}
 use Rattle.ticks.specs.Begun.{begunOf, tickedBy}
 use Rattle.ticks.proofs.Whole.{whole}
 use Rattle.pd3120_c.specs.Codes.{Ticked}
-use Rattle.pd3120_c.proofs.Laws.Turns.{all-turned}
+use Rattle.pd3120_c.proofs.Laws.Turns.{all-turned, saved-turned}
 use Rattle.pd3120_c.proofs.Walks.Box.{shared, service, channel, box, tick-begun}
 use Rattle.pd3120_c.proofs.Walks.Tick.{Started, Called, meets}
+use Rattle.pd3120_c.proofs.Walks.TickSave.{Called as Kept}
 use Rattle.pd3120_c.proofs.Walks.Turns.{turned}
 use Rattle.ticks.proofs.begin.Symbol as begin-def
 use Rattle.ticks.proofs.begin.Symbol.{name as #begin}
@@ -22,6 +28,9 @@ use Rattle.ticks.proofs.begin.Met as begin-thm
 use Rattle.ticks.proofs.tick_one.Symbol as turn-def
 use Rattle.ticks.proofs.tick_one.Symbol.{name as #turn}
 use Rattle.ticks.proofs.tick_one.Met as turn-thm
+use Rattle.review.proofs.keep.Symbol as keep-def
+use Rattle.review.proofs.keep.Symbol.{name as #keep}
+use Rattle.review.proofs.keep.Met as keep-thm
 use Rattle.pd3120_c.proofs.pd3120_tick.Key.{name as #export}
 use Rattle.pd3120_c.proofs.pd3120_tick as exported
 use Rattle.pd3120_c.proofs.pd3120_tick.Statement as stated
@@ -34,18 +43,37 @@ Begins m b = b ≡ begunOf m
 abbrev left : Begun → List Channel → Module
 left b cs = record { shared = b .shared; service = b .service; channels = cs }
 
-follows : (m : Module) (b : Begun) → length (m .channels) ≡ 16 → Begins m b → Ticked m (left b (turned (λ k. tickedBy b) (box .none) 16 (m .channels)))
-unfolding step
-follows m b l e = ap (left b) (all-turned (tickedBy b) (m .channels) l) ∙ rw e (whole m l)
+few : (m : Module) (b : Begun) → Begins m b → b .count ≤ 16
+unfolding begunOf
+few m b e = rw e (either (λ (n : ℕ). n ≤ 16) (saveDue (m .shared)) (omega arith) (omega arith))
+
+-- the channels after both loops
+abbrev through : Begun → List Channel → List Channel
+through b cs = turned (λ k. saved true) (box .none) (b .count) (turned (λ k. tickedBy b) (box .none) 16 cs)
+
+whole-through : (m : Module) → length (m .channels) ≡ 16 → Ticked m (left (begunOf m) (through (begunOf m) (m .channels)))
+unfolding step begunOf
+whole-through m l =
+    let b = begunOf m in
+    let cs = m .channels in
+    let n : length (map (tickedBy b) cs) ≡ 16 = rw length-map l in
+    ap (left b) (ap (λ (ds : List Channel). turned (λ k. saved true) (box .none) (b .count) ds) (all-turned (tickedBy b) cs l)
+    ∙ saved-turned (saveDue (m .shared)) (tickedBy b) cs n) ∙ whole m l
+
+follows : (m : Module) (b : Begun) → length (m .channels) ≡ 16 → Begins m b → Ticked m (left b (through b (m .channels)))
+follows m b l e = subst (λ (x : Begun). Ticked m (left x (through x (m .channels)))) (sym e) (whole-through m l)
 
 pub pd3120-tick-spec : {M : Type 1} → stated.statement M
 unfolding code.routine tablesOf
 pd3120-tick-spec 𝓤 H 𝓜 𝓖 𝓡 =
     entered 𝓤 H (tripleOf 𝓤 H (𝓖 .A) exported.signature (exported.spec 𝓤 H (𝓖 .A) (𝓜 .mem) (𝓡 .run)))
     (tables 𝓤 H 𝓜 𝓡 code.env .C) (tables 𝓤 H 𝓜 𝓡 code.env .Λ) #export code.function (code.unfolded 𝓤 H 𝓜 𝓡)
-    (meets shared service channel box tick-begun 𝓤 H (𝓖 .A) (givenOf 𝓤 H 𝓜 𝓖) #begin #turn Begins tickedBy Ticked follows
+    (meets shared service channel box tick-begun 𝓤 H (𝓖 .A) (givenOf 𝓤 H 𝓜 𝓖) #begin #turn #keep Begins tickedBy (saved true) Ticked few
+    follows
     (tablesOf 𝓤 H 𝓜 (tables 𝓤 H 𝓜 𝓡 code.env))
     (cited 𝓤 H (Started shared service channel box tick-begun 𝓤 H (𝓖 .A) Begins) 𝓜 𝓡 code.env #begin begin-def.routine code.calls-ticks·begin
     (begin-thm.met 𝓤 H 𝓜 𝓖 𝓡))
     (cited 𝓤 H (Called shared service channel box tick-begun 𝓤 H (𝓖 .A) tickedBy) 𝓜 𝓡 code.env #turn turn-def.routine code.calls-ticks·tick-one
-    (turn-thm.met 𝓤 H 𝓜 𝓖 𝓡)))
+    (turn-thm.met 𝓤 H 𝓜 𝓖 𝓡))
+    (cited 𝓤 H (Kept shared service channel box tick-begun 𝓤 H (𝓖 .A) (saved true)) 𝓜 𝓡 code.env #keep keep-def.routine code.calls-review·keep
+    (keep-thm.met 𝓤 H 𝓜 𝓖 𝓡)))

@@ -1,5 +1,5 @@
--- What a tick leaves of a channel, rule by rule: its settings, presets, currents, Counter, the user's registers, and the kept register 5. So the
--- channel after a tick is the one before it with the other parts put back. Assumes nothing.
+-- What steps 2 to 6 of a tick leave of a channel, rule by rule: its settings, presets, currents, Counter, the user's registers, and what is kept. So the
+-- channel after them is the one before it with the other parts put back. Assumes nothing.
 use mathlib.Core.Path.{_≡_, refl, sym, ap, _∙_}
 use mathlib.Core.Bool.{Bool, not, _&&_, Bool·beq}
 use mathlib.Core.List.{List}
@@ -10,6 +10,7 @@ use Rattle.counts.specs.Counts.{isPositive}
 use Rattle.model.specs.declared.Config.{Config}
 use Rattle.model.specs.declared.Currents.{Currents}
 use Rattle.model.specs.declared.Function.{Function}
+use Rattle.model.specs.declared.Kept.{Kept}
 use Rattle.model.specs.declared.Channel.{Channel}
 use Rattle.model.specs.declared.Shared.{Shared}
 use Rattle.model.specs.declared.Function.the-variants.{Input, Output, OneShot, DutyCycle, Timer}
@@ -29,7 +30,7 @@ record Rest : Type 0 where
   user : List ℕ
   reals : List ℕ
   maintenance : List ℕ
-  kept-user : List ℕ
+  kept : Kept
 
 abbrev rest : Channel → Rest
 rest ch =
@@ -42,14 +43,14 @@ rest ch =
       user = ch .user;
       reals = ch .reals;
       maintenance = ch .maintenance;
-      kept-user = ch .kept .user;
+      kept = ch .kept;
     }
 
 -- a channel with these parts
 abbrev with-rest : Rest → Channel → Channel
 with-rest x ch =
     channelWith (x .config) (ch .flags) (outTimer ch) (fbTimer ch) (x .out-preset) (x .fb-preset) (x .currents) (ch .errors) (x .counter) (ch .operating) (x .user) (x .reals) (x .maintenance)
-    (record { counter = ch .kept .counter; operating = ch .kept .operating; user = x .kept-user })
+    (x .kept)
 
 put-back : (after ch : Channel) → rest after ≡ rest ch → putBack after ch ≡ after
 unfolding putBack
@@ -98,10 +99,6 @@ module _ (ch : Channel) where
   unfolding Tick.judged
   left-judged s = refl
 
-  left-saved : (due : Bool) → Left (Tick.saved due ch)
-  unfolding Tick.saved
-  left-saved due = either Left due refl refl
-
 -- ---- the special functions
 left-oneShot : (ch : Channel) → rest (Tick.oneShot ch) ≡ rest ch
 unfolding Tick.oneShot
@@ -143,15 +140,10 @@ left-looked : (s : Shared) (levels : List Bool) (ch : Channel) → rest (Tick.lo
 unfolding Tick.looked
 left-looked s levels ch = either (Left ch) (Tick.lookDue s) (left-operated (setFBStatus (Tick.feedbackWrong levels ch) ch)) refl
 
-left-reviewed : (s : Shared) (due : Bool) (levels : List Bool) (ch : Channel) → rest (Tick.reviewed s due levels ch) ≡ rest ch
-unfolding Tick.reviewed
-left-reviewed s due levels ch =
-    let x = Tick.looked s levels ch in
-    left-saved (Tick.judged s x) due ∙ left-judged x s ∙ left-looked s levels ch
-
--- what is put back is all that a tick changed
-pub put-back-ticked : (s : Shared) (out due : Bool) (levels : List Bool) (ch : Channel)
-    → putBack (Tick.channelTicked s out due levels ch) ch ≡ Tick.channelTicked s out due levels ch
-put-back-ticked s out due levels ch =
+-- what is put back is all that they changed
+pub put-back-ticked : (s : Shared) (out : Bool) (levels : List Bool) (ch : Channel)
+    → putBack (Tick.judged s (Tick.looked s levels (Tick.driven s out ch))) ch ≡ Tick.judged s (Tick.looked s levels (Tick.driven s out ch))
+put-back-ticked s out levels ch =
     let x = Tick.driven s out ch in
-    put-back (Tick.reviewed s due levels x) ch (left-reviewed s due levels x ∙ left-driven s out ch)
+    let y = Tick.looked s levels x in
+    put-back (Tick.judged s y) ch (left-judged y s ∙ left-looked s levels x ∙ left-driven s out ch)

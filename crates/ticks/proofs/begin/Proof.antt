@@ -16,6 +16,9 @@ tick-service-requires c κs = search needs
 save-due-requires : tie.Need-save-due-requires
 save-due-requires c κs = search needs
 
+count-if-requires : tie.Need-count-if-requires
+count-if-requires c κs = search needs
+
 levels-looked-at-requires : tie.Need-levels-looked-at-requires
 levels-looked-at-requires c κs = search needs
 
@@ -23,10 +26,11 @@ returns : tie.Need-returns
 unfolding begunOf
 returns c = simp (
   c .levels-looked-at .ensures,
-  c .before .save-due .ensures,
-  c .before .before .tick-service .ensures,
-  c .before .before .before .tick-shared .ensures,
-  c .before .before .before .before .runs-out .ensures,
+  c .before .count-if .ensures,
+  c .before .before .save-due .ensures,
+  c .before .before .before .tick-service .ensures,
+  c .before .before .before .before .tick-shared .ensures,
+  c .before .before .before .before .before .runs-out .ensures,
 )
 
 pub begin-spec : {M : Type 1} → statement M
@@ -37,5 +41,6 @@ begin-spec =
     tick-shared-requires
     tick-service-requires
     save-due-requires
+    count-if-requires
     levels-looked-at-requires
     returns)
