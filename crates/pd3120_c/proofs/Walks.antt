@@ -9,6 +9,7 @@ pub mod Grouped
 pub mod Sample
 pub mod Store
 pub mod Tick
+pub mod TickLoop
 pub mod TickSave
 pub mod Turns
 pub mod Types

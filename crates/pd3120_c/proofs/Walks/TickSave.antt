@@ -1,4 +1,4 @@
--- The second loop of the walk of `Tick.antt`, and what comes after it:
+-- The second loop of the walk of `Tick.antt`, what comes after it, and the locals of the walk:
 --     while k < begun.count { m.items[k] = keep(m.items[k]); k += 1; }
 -- of a module that has the parts of `begun` and the items cs₀, and whose borrow is open. Its callee gives of item c the item `f c`; from the module that is then
 -- there follows what the function leaves (`exits`).
@@ -76,6 +76,20 @@ module _ (X Y Z : Plain) (S : Grouped X Y Z) (B : Begun X Y) where
   rest = seq (assign (place 0 []) (rvOpd opdUnit)) return
 
   module _ {M : Type 1} (𝓤 : URA M) (H : Heap 𝓤) (A : Atoms 𝓤) where
+    -- the locals, and that each dies
+    abbrev pub env : (l₀ l₁ l₂ l₃ l₄ l₅ l₆ l₇ l₈ l₉ l₁₀ l₁₁ l₁₂ l₁₃ l₁₄ l₁₅ l₁₆ l₁₇ l₁₈ l₁₉ l₂₀ l₂₁ l₂₂ : ℕ) → Env 𝓤 H
+    env l₀ l₁ l₂ l₃ l₄ l₅ l₆ l₇ l₈ l₉ l₁₀ l₁₁ l₁₂ l₁₃ l₁₄ l₁₅ l₁₆ l₁₇ l₁₈ l₁₉ l₂₀ l₂₁ l₂₂ =
+        (tyUnit, l₀) ∷ (ref, l₁) ∷ (B′ .mir, l₂) ∷ (tyInt w64, l₃) ∷ (S′ .mir, l₄) ∷ (tyBool, l₅) ∷ (Z .mir, l₆) ∷ (tyInt w64, l₇) ∷ (tyPtr, l₈) ∷ (tyPtr, l₉)
+        ∷ (Z .mir, l₁₀) ∷ (tyInt w64, l₁₁) ∷ (tyPtr, l₁₂) ∷ (tyPtr, l₁₃) ∷ (tyBool, l₁₄) ∷ (Z .mir, l₁₅) ∷ (tyInt w64, l₁₆) ∷ (tyPtr, l₁₇) ∷ (tyPtr, l₁₈)
+        ∷ (Z .mir, l₁₉) ∷ (tyInt w64, l₂₀) ∷ (tyPtr, l₂₁) ∷ (tyPtr, l₂₂) ∷ []
+
+    abbrev pub dying : (l₀ l₁ l₂ l₃ l₄ l₅ l₆ l₇ l₈ l₉ l₁₀ l₁₁ l₁₂ l₁₃ l₁₄ l₁₅ l₁₆ l₁₇ l₁₈ l₁₉ l₂₀ l₂₁ l₂₂ : ℕ) → List (Item 𝓤)
+    dying l₀ l₁ l₂ l₃ l₄ l₅ l₆ l₇ l₈ l₉ l₁₀ l₁₁ l₁₂ l₁₃ l₁₄ l₁₅ l₁₆ l₁₇ l₁₈ l₁₉ l₂₀ l₂₁ l₂₂ =
+        ‵ (fdies tyUnit l₀) ∷ ‵ (fdies ref l₁) ∷ ‵ (fdies (B′ .mir) l₂) ∷ ‵ (fdies (tyInt w64) l₃) ∷ ‵ (fdies (S′ .mir) l₄) ∷ ‵ (fdies tyBool l₅)
+        ∷ ‵ (fdies (Z .mir) l₆) ∷ ‵ (fdies (tyInt w64) l₇) ∷ ‵ (fdies tyPtr l₈) ∷ ‵ (fdies tyPtr l₉) ∷ ‵ (fdies (Z .mir) l₁₀) ∷ ‵ (fdies (tyInt w64) l₁₁)
+        ∷ ‵ (fdies tyPtr l₁₂) ∷ ‵ (fdies tyPtr l₁₃) ∷ ‵ (fdies tyBool l₁₄) ∷ ‵ (fdies (Z .mir) l₁₅) ∷ ‵ (fdies (tyInt w64) l₁₆) ∷ ‵ (fdies tyPtr l₁₇)
+        ∷ ‵ (fdies tyPtr l₁₈) ∷ ‵ (fdies (Z .mir) l₁₉) ∷ ‵ (fdies (tyInt w64) l₂₀) ∷ ‵ (fdies tyPtr l₂₁) ∷ ‵ (fdies tyPtr l₂₂) ∷ []
+
     -- what the callee ensures
     module _ (f : Z .D → Z .D) where
       abbrev called : Clauses 𝓤 keeper
@@ -107,18 +121,23 @@ module _ (X Y Z : Plain) (S : Grouped X Y Z) (B : Begun X Y) where
           n′ = B .count r
 
           abbrev En : Env 𝓤 H
-          En =
-              (tyUnit, l₀) ∷ (ref, l₁) ∷ (B′ .mir, l₂) ∷ (tyInt w64, l₃) ∷ (S′ .mir, l₄) ∷ (tyBool, l₅) ∷ (Z .mir, l₆) ∷ (tyInt w64, l₇) ∷ (tyPtr, l₈) ∷ (tyPtr, l₉) ∷ (Z .mir, l₁₀) ∷ (tyInt w64, l₁₁) ∷ (tyPtr, l₁₂) ∷ (tyPtr, l₁₃) ∷ (tyBool, l₁₄) ∷ (Z .mir, l₁₅) ∷ (tyInt w64, l₁₆) ∷ (tyPtr, l₁₇) ∷ (tyPtr, l₁₈) ∷ (Z .mir, l₁₉) ∷ (tyInt w64, l₂₀) ∷ (tyPtr, l₂₁) ∷ (tyPtr, l₂₂) ∷ []
+          En = env l₀ l₁ l₂ l₃ l₄ l₅ l₆ l₇ l₈ l₉ l₁₀ l₁₁ l₁₂ l₁₃ l₁₄ l₁₅ l₁₆ l₁₇ l₁₈ l₁₉ l₂₀ l₂₁ l₂₂
 
           -- what no turn touches
           abbrev Frame : List (Item 𝓤)
           Frame =
-              ‵ (fat fullShare ref l₁ 0 (vptr b o)) ∷ ‵ (fat fullShare (B′ .mir) l₂ 0 (B′ .val r)) ∷ ‵ (froom tyUnit l₀ 0) ∷ ‵ (froom (S′ .mir) l₄ 0) ∷ ‵ (froom tyBool l₅ 0) ∷ ‵ (froom (Z .mir) l₆ 0) ∷ ‵ (froom (tyInt w64) l₇ 0) ∷ ‵ (froom tyPtr l₈ 0) ∷ ‵ (froom tyPtr l₉ 0) ∷ ‵ (froom (Z .mir) l₁₀ 0) ∷ ‵ (froom (tyInt w64) l₁₁ 0) ∷ ‵ (froom tyPtr l₁₂ 0) ∷ ‵ (froom tyPtr l₁₃ 0) ∷ ‵ (fobor κ q Whole) ∷ ‵ (fobs γ (S .coded .code h)) ∷ ‵ (fauth γ (S .coded .code h)) ∷ ‵ (fdies tyUnit l₀) ∷ ‵ (fdies ref l₁) ∷ ‵ (fdies (B′ .mir) l₂) ∷ ‵ (fdies (tyInt w64) l₃) ∷ ‵ (fdies (S′ .mir) l₄) ∷ ‵ (fdies tyBool l₅) ∷ ‵ (fdies (Z .mir) l₆) ∷ ‵ (fdies (tyInt w64) l₇) ∷ ‵ (fdies tyPtr l₈) ∷ ‵ (fdies tyPtr l₉) ∷ ‵ (fdies (Z .mir) l₁₀) ∷ ‵ (fdies (tyInt w64) l₁₁) ∷ ‵ (fdies tyPtr l₁₂) ∷ ‵ (fdies tyPtr l₁₃) ∷ ‵ (fdies tyBool l₁₄) ∷ ‵ (fdies (Z .mir) l₁₅) ∷ ‵ (fdies (tyInt w64) l₁₆) ∷ ‵ (fdies tyPtr l₁₇) ∷ ‵ (fdies tyPtr l₁₈) ∷ ‵ (fdies (Z .mir) l₁₉) ∷ ‵ (fdies (tyInt w64) l₂₀) ∷ ‵ (fdies tyPtr l₂₁) ∷ ‵ (fdies tyPtr l₂₂) ∷ []
+              ‵ (fat fullShare ref l₁ 0 (vptr b o)) ∷ ‵ (fat fullShare (B′ .mir) l₂ 0 (B′ .val r)) ∷ ‵ (froom tyUnit l₀ 0) ∷ ‵ (froom (S′ .mir) l₄ 0)
+              ∷ ‵ (froom tyBool l₅ 0) ∷ ‵ (froom (Z .mir) l₆ 0) ∷ ‵ (froom (tyInt w64) l₇ 0) ∷ ‵ (froom tyPtr l₈ 0) ∷ ‵ (froom tyPtr l₉ 0)
+              ∷ ‵ (froom (Z .mir) l₁₀ 0) ∷ ‵ (froom (tyInt w64) l₁₁ 0) ∷ ‵ (froom tyPtr l₁₂ 0) ∷ ‵ (froom tyPtr l₁₃ 0) ∷ ‵ (fobor κ q Whole)
+              ∷ ‵ (fobs γ (S .coded .code h)) ∷ ‵ (fauth γ (S .coded .code h))
+              ∷ dying l₀ l₁ l₂ l₃ l₄ l₅ l₆ l₇ l₈ l₉ l₁₀ l₁₁ l₁₂ l₁₃ l₁₄ l₁₅ l₁₆ l₁₇ l₁₈ l₁₉ l₂₀ l₂₁ l₂₂
 
           -- the head of turn k, where the module has the items cs
           abbrev pub At : ℕ → List (Z .D) → List (Item 𝓤)
           At k cs =
-              ‵ (fat fullShare (S′ .mir) b o (parts X Y Z (B .first r) (B .second r) cs)) ∷ ‵ (fat fullShare (tyInt w64) l₃ 0 (vint w64 k)) ∷ ‵ (froom tyBool l₁₄ 0) ∷ ‵ (froom (Z .mir) l₁₅ 0) ∷ ‵ (froom (tyInt w64) l₁₆ 0) ∷ ‵ (froom tyPtr l₁₇ 0) ∷ ‵ (froom tyPtr l₁₈ 0) ∷ ‵ (froom (Z .mir) l₁₉ 0) ∷ ‵ (froom (tyInt w64) l₂₀ 0) ∷ ‵ (froom tyPtr l₂₁ 0) ∷ ‵ (froom tyPtr l₂₂ 0) ∷ Frame
+              ‵ (fat fullShare (S′ .mir) b o (parts X Y Z (B .first r) (B .second r) cs)) ∷ ‵ (fat fullShare (tyInt w64) l₃ 0 (vint w64 k)) ∷ ‵ (froom tyBool l₁₄ 0)
+              ∷ ‵ (froom (Z .mir) l₁₅ 0) ∷ ‵ (froom (tyInt w64) l₁₆ 0) ∷ ‵ (froom tyPtr l₁₇ 0) ∷ ‵ (froom tyPtr l₁₈ 0) ∷ ‵ (froom (Z .mir) l₁₉ 0)
+              ∷ ‵ (froom (tyInt w64) l₂₀ 0) ∷ ‵ (froom tyPtr l₂₁ 0) ∷ ‵ (froom tyPtr l₂₂ 0) ∷ Frame
 
           -- when the loop is left, the rest of the body runs
           abbrev pub Left : Out → SProp 𝓤

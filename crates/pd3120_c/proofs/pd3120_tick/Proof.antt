@@ -19,7 +19,8 @@ use Rattle.ticks.proofs.Whole.{whole}
 use Rattle.pd3120_c.specs.Codes.{Ticked}
 use Rattle.pd3120_c.proofs.Laws.Turns.{all-turned, saved-turned}
 use Rattle.pd3120_c.proofs.Walks.Box.{shared, service, channel, box, tick-begun}
-use Rattle.pd3120_c.proofs.Walks.Tick.{Started, Called, meets}
+use Rattle.pd3120_c.proofs.Walks.Tick.{Started, meets}
+use Rattle.pd3120_c.proofs.Walks.TickLoop.{Called}
 use Rattle.pd3120_c.proofs.Walks.TickSave.{Called as Kept}
 use Rattle.pd3120_c.proofs.Walks.Turns.{turned}
 use Rattle.ticks.proofs.begin.Symbol as begin-def
