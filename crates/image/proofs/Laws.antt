@@ -1,5 +1,6 @@
 pub mod Lists
 pub mod Paste
+pub mod Sections
 pub mod Entries
 pub mod Halves
 pub mod Tests

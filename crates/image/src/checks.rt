@@ -4,7 +4,7 @@ ghost use Prim.Native.Nat.{_*_, _≤_};
 ghost use lib.ListN.{length};
 ghost use Rattle.numbers.specs.Reals.{realFrom};
 ghost use Rattle.numbers.specs.Written.{limitAllowed};
-ghost use Rattle.model.specs.Image.{imageSize, entrySize, total, sizeRight, countsRight, sumRight, presetCountAllowed, entryAllowed, entriesAllowed, valuesAllowed};
+ghost use Rattle.model.specs.Image.{moduleSize, entrySize, imageSize, total, sizeRight, countsRight, sumRight, presetCountAllowed, moduleAllowed, entryAllowed, entriesAllowed, valuesAllowed};
 use crate::sizes;
 use integers::bytes;
 use numbers::written;
@@ -65,6 +65,16 @@ fn limit_allowed(s: &[u8]) -> bool
     written::limit_allowed(fields::real_from(s))
 }
 
+// The box's own section.
+fn module_allowed(s: &[u8]) -> bool
+    requires { ⌜ length (now s) ≡ moduleSize ⌝ }
+    ensures { λ r. ⌜ r ≡ moduleAllowed (now (s .entry)) ⌝ }
+{
+    let config = fields::module_config_allowed(&s[0..sizes::WD_PRESET]);
+    let preset = preset_allowed(&s[sizes::WD_PRESET..sizes::MODULE]);
+    config & preset
+}
+
 fn entry_allowed(s: &[u8]) -> bool
     requires { ⌜ length (now s) ≡ entrySize ⌝ }
     ensures { λ r. ⌜ r ≡ entryAllowed (now (s .entry)) ⌝ }
@@ -95,8 +105,7 @@ pub(crate) fn values_allowed(img: &[u8]) -> bool
     requires { ⌜ length (now img) ≡ imageSize ⌝ }
     ensures { λ r. ⌜ r ≡ valuesAllowed (now (img .entry)) ⌝ }
 {
-    let config = fields::module_config_allowed(&img[sizes::CONFIG..sizes::PRESET]);
-    let preset = preset_allowed(&img[sizes::PRESET..sizes::SECOND_COUNT]);
-    let entries = entries_allowed(&img[sizes::ENTRIES..]);
-    config & (preset & entries)
+    let module = module_allowed(&img[sizes::OWN..sizes::SECOND_COUNT]);
+    let entries = entries_allowed(&img[sizes::ENTRIES..sizes::THIRD_COUNT]);
+    module & entries
 }

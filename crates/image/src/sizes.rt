@@ -12,6 +12,11 @@ pub const CHANNELS: usize = ALL_CHANNELS as usize;
 // A setting, a count, a Real and most user bytes.
 pub const WORD: usize = 4;
 
+// The box's own section: ModuleConfig and WDPreset.
+pub const WD_PRESET: usize = WORD;
+
+pub const MODULE: usize = WD_PRESET + WORD;
+
 // An entry: registers 9, 7, 8, A, B, C, D, 5, 2 and 4.
 pub const FEEDBACK: usize = WORD;
 
@@ -33,12 +38,10 @@ pub const OPERATING: usize = COUNTER + WORD;
 
 pub const ENTRY: usize = OPERATING + WORD;
 
-// The image: a count, ModuleConfig and WDPreset; a count and the entries; a count and the sum.
-pub const CONFIG: usize = 1;
+// The image: a count and the box's own section; a count and the entries; a count and the sum.
+pub const OWN: usize = 1;
 
-pub const PRESET: usize = CONFIG + WORD;
-
-pub const SECOND_COUNT: usize = PRESET + WORD;
+pub const SECOND_COUNT: usize = OWN + MODULE;
 
 pub const ENTRIES: usize = SECOND_COUNT + 1;
 

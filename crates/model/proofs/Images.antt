@@ -5,6 +5,7 @@ pub mod Values
 pub mod Parts
 pub mod Entries
 pub mod Sequence
+pub mod Sections
 pub mod Whole
 pub mod Rules
 pub mod Writes

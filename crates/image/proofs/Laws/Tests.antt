@@ -1,5 +1,5 @@
 -- Questions and their answers. Assumes nothing.
-use mathlib.Core.Path.{_≡_, refl, sym}
+use mathlib.Core.Path.{_≡_, refl, sym, _∙_}
 use mathlib.Core.Bool.{Bool, true, false, cond, false≢true}
 use mathlib.Core.List.{List}
 use Prim.Native.Nat.{ℕ}
@@ -12,11 +12,11 @@ use Rattle.model.specs.Image.{imageSize, sizeRight, decode, poweredUp, zeroSetu
 use Rattle.model.specs.Questions.{powerUpReply}
 use Rattle.model.specs.Calls.{poweredUpAs}
 use Rattle.model.specs.Questions.{accepted}
+use Rattle.image.proofs.Laws.Sections.{one-length}
 
--- an image of the right size has 717 bytes
+-- an image of the right size is as long as what is stored
 pub size-long : (img : List ℕ) → sizeRight img ≡ true → length img ≡ imageSize
-unfolding sizeRight
-size-long img e = eqb-true (length img) imageSize e
+size-long img e = eqb-true (length img) imageSize (one-length img ∙ e)
 
 -- what is done passed its first question
 passed : (b : Bool) (x : Reply) (r : Refusal) → accepted (cond b x (Refused r)) ≡ true → b ≡ true

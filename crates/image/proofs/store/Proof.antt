@@ -10,7 +10,7 @@ use lib.ListN.{length, take}
 use borrow.Author.Tests.{le-leb, lt-leb}
 use Rattle.integers.specs.Bytes.{bytesOf}
 use Rattle.integers.proofs.Laws.Bytes.{length-bytes}
-use Rattle.model.specs.Image.{setupOf, total, body, encode}
+use Rattle.model.specs.Image.{setupOf, contentsOf, sections, framed, total, summed, encode}
 use Rattle.image.specs.Parts.{pasted}
 use Rattle.image.proofs.Laws.Paste.{pasted-next, pasted-front, pasted-start}
 use Rattle.image.proofs.store.Statement.{statement}
@@ -32,11 +32,11 @@ same-length : tie.Need-same-length
 same-length c = search needs
 
 returns-2 : tie.Need-returns-2
-unfolding storeReply stored encode
+unfolding storeReply stored encode summed
 returns-2 c =
     let s = c .before .before .before .before .before .before .before .before .before .before in
     let buf = s .args .buf .now in
-    let all = body (setupOf (s .args .m)) in
+    let all = framed sections (contentsOf (setupOf (s .args .m))) in
     let sum = bytesOf 2 (total all % 65536) in
     let e = le-leb 717 (length buf) (c .before .before .before .before .before .before .before .before .if1 .left) in
     let put = c .before .before .before .before .before .before .put-body in

@@ -1,7 +1,6 @@
 -- `checks::counts_right` meets its contract. Assumes nothing.
 use borrow.Author.Needs.{needs}
-use mathlib.Core.Path.{refl}
-use Rattle.model.specs.Image.{countsRight}
+use Rattle.image.proofs.Laws.Sections.{counts-at}
 use Rattle.image.proofs.checks.counts_right.Statement.{statement}
 use Rattle.image.proofs.checks.counts_right.Tie as tie
 
@@ -15,8 +14,7 @@ shared-slice-read-third : tie.Need-shared-slice-read-third
 shared-slice-read-third c = search needs
 
 returns : tie.Need-returns
-unfolding countsRight
-returns c = refl
+returns c = let s = c .before .before .before in counts-at (s .args .img .now) (s .pre)
 
 pub counts-right-spec : {M : Type 1} → statement M
 counts-right-spec =

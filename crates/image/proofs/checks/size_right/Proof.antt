@@ -1,12 +1,10 @@
 -- `checks::size_right` meets its contract. Assumes nothing.
-use mathlib.Core.Path.{refl}
-use Rattle.model.specs.Image.{sizeRight}
+use Rattle.image.proofs.Laws.Sections.{one-length}
 use Rattle.image.proofs.checks.size_right.Statement.{statement}
 use Rattle.image.proofs.checks.size_right.Tie as tie
 
 returns : tie.Need-returns
-unfolding sizeRight
-returns c = refl
+returns c = one-length (c .args .img .now)
 
 pub size-right-spec : {M : Type 1} → statement M
 size-right-spec = tie.close (tie.spec returns)

@@ -1,10 +1,10 @@
 -- `checks::sum_right` meets its contract. Assumes nothing.
 use borrow.Author.Needs.{needs}
-use Rattle.model.specs.Image.{sumRight}
 use mathlib.Core.Path.{sym}
 use native.Mathlib.Omega.{arith}
 use lib.Seq.{length-take-le}
 use Rattle.image.proofs.Laws.Lists.{last-two}
+use Rattle.image.proofs.Laws.Sections.{sum-at}
 use Rattle.image.proofs.checks.sum_right.Statement.{statement}
 use Rattle.image.proofs.checks.sum_right.Tie as tie
 
@@ -35,10 +35,9 @@ cast-result : tie.Need-cast-result
 cast-result c = search needs
 
 returns : tie.Need-returns
-unfolding sumRight
 returns c =
     let s = c .before .before .before .before .before .before in
-    rw (c .sum .ensures, c .before .before .u16-of-bytes .ensures, last-two 715 (s .args .img .now) (s .pre))
+    rw (c .sum .ensures, c .before .before .u16-of-bytes .ensures, last-two 715 (s .args .img .now) (s .pre)) (sum-at (s .args .img .now) (s .pre))
 
 pub sum-right-spec : {M : Type 1} → statement M
 sum-right-spec =

@@ -1,33 +1,20 @@
 -- `checks::values_allowed` meets its contract. Assumes nothing.
 use borrow.Author.Needs.{needs}
-use Rattle.model.specs.Image.{valuesAllowed}
-use Rattle.image.proofs.Laws.Lists.{to-the-end}
+use Rattle.image.proofs.Laws.Sections.{values-at}
 use Rattle.image.proofs.checks.values_allowed.Statement.{statement}
 use Rattle.image.proofs.checks.values_allowed.Tie as tie
 
-sub-module-config-allowed : tie.Need-sub-module-config-allowed
-sub-module-config-allowed c = search needs
+sub-module-allowed : tie.Need-sub-module-allowed
+sub-module-allowed c = search needs
 
-part-module-config-allowed-start : tie.Need-part-module-config-allowed-start
-part-module-config-allowed-start c = search needs
+part-module-allowed-start : tie.Need-part-module-allowed-start
+part-module-allowed-start c = search needs
 
-part-module-config-allowed-end : tie.Need-part-module-config-allowed-end
-part-module-config-allowed-end c = search needs
+part-module-allowed-end : tie.Need-part-module-allowed-end
+part-module-allowed-end c = search needs
 
-module-config-allowed-requires : tie.Need-module-config-allowed-requires
-module-config-allowed-requires c κs = search needs
-
-sub-preset-allowed : tie.Need-sub-preset-allowed
-sub-preset-allowed c = search needs
-
-part-preset-allowed-start : tie.Need-part-preset-allowed-start
-part-preset-allowed-start c = search needs
-
-part-preset-allowed-end : tie.Need-part-preset-allowed-end
-part-preset-allowed-end c = search needs
-
-preset-allowed-requires : tie.Need-preset-allowed-requires
-preset-allowed-requires c κs = search needs
+module-allowed-requires : tie.Need-module-allowed-requires
+module-allowed-requires c κs = search needs
 
 sub-entries-allowed : tie.Need-sub-entries-allowed
 sub-entries-allowed c = search needs
@@ -42,28 +29,18 @@ entries-allowed-requires : tie.Need-entries-allowed-requires
 entries-allowed-requires c κs = search needs
 
 returns : tie.Need-returns
-unfolding valuesAllowed
 returns c =
-    let s = c .before .before .before .before .before .before .before in
-    rw (
-      c .entries-allowed .ensures,
-      c .before .before .preset-allowed .ensures,
-      c .before .before .before .before .module-config-allowed .ensures,
-      to-the-end 10 (s .args .img .now),
-    )
+    let s = c .before .before .before .before .before in
+    rw (c .entries-allowed .ensures, c .before .before .module-allowed .ensures) (values-at (s .args .img .now) (s .pre))
 
 pub values-allowed-spec : {M : Type 1} → statement M
 values-allowed-spec =
     tie.close
     (tie.spec
-    sub-module-config-allowed
-    part-module-config-allowed-start
-    part-module-config-allowed-end
-    module-config-allowed-requires
-    sub-preset-allowed
-    part-preset-allowed-start
-    part-preset-allowed-end
-    preset-allowed-requires
+    sub-module-allowed
+    part-module-allowed-start
+    part-module-allowed-end
+    module-allowed-requires
     sub-entries-allowed
     part-entries-allowed-start
     part-entries-allowed-end

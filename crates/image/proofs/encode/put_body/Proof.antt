@@ -1,7 +1,7 @@
 -- `encode::put_body` meets its contract. Assumes nothing.
 use borrow.Author.Needs.{needs}
-use Rattle.image.specs.Parts.{pasted, moduleSection}
-use Rattle.model.specs.Image.{entryOf, setupOf, moduleBytes, entriesBytes, body}
+use Rattle.image.specs.Parts.{pasted, moduleFront}
+use Rattle.model.specs.Image.{entryOf, setupOf, moduleBytes, entriesBytes, contentsOf, sections, framed}
 use mathlib.Core.Path.{_≡_, sym, ap, _∙_}
 use mathlib.Core.List.{List, [], _∷_, _++_, map, append-assoc}
 use Prim.Native.Nat.{ℕ, _+_}
@@ -28,8 +28,8 @@ same-length c = search needs
 counted : (a : List ℕ) (n : ℕ) (b d : List ℕ) → ((a ++ (n ∷ [])) ++ b) ++ d ≡ a ++ ((n ∷ b) ++ d)
 counted a n b d = simp append-assoc
 
-sections-joined : (m : Module) → (moduleSection (m .shared) ++ entriesBytes (map entryOf (m .channels))) ++ (1 ∷ []) ≡ body (setupOf m)
-unfolding moduleSection body
+sections-joined : (m : Module) → (moduleFront (m .shared) ++ entriesBytes (map entryOf (m .channels))) ++ (1 ∷ []) ≡ framed sections (contentsOf (setupOf m))
+unfolding moduleFront framed
 sections-joined m = counted (1 ∷ moduleBytes (setupOf m)) 16 (entriesBytes (map entryOf (m .channels))) (1 ∷ [])
 
 returns : tie.Need-returns
@@ -37,7 +37,7 @@ returns c =
     let s = c .before .before .before .before .before .before .before .before .before .before .before .before .before .before in
     let buf = s .args .buf .now in
     let m = s .args .m in
-    let a = moduleSection (m .shared) in
+    let a = moduleFront (m .shared) in
     let es = entriesBytes (map entryOf (m .channels)) in
     let first = c .before .before .before .before .before .before .before .before .before .before .put-module .ensures in
     let second = c .before .before .before .before .before .before .put-entries .ensures in

@@ -1,6 +1,6 @@
 -- `encode::put_module` meets its contract. Assumes nothing.
 use borrow.Author.Needs.{needs}
-use Rattle.image.specs.Parts.{pasted, moduleSection}
+use Rattle.image.specs.Parts.{pasted, moduleFront}
 use mathlib.Core.Path.{_≡_, refl, sym, ap, _∙_}
 use mathlib.Core.List.{[], _∷_, _++_}
 use Prim.Native.Nat.{_+_}
@@ -29,7 +29,7 @@ same-length : tie.Need-same-length
 same-length c = search needs
 
 returns : tie.Need-returns
-unfolding moduleSection
+unfolding moduleFront
 returns c =
     let s = c .before .before .before .before .before .before .before .before .before .before .before .before .before .before .before in
     let buf = s .args .buf .now in
@@ -38,7 +38,7 @@ returns c =
     let ab = config .result ++ preset .result in
     let second = c .before .before .before .before .before .before .put-two .ensures in
     let long : length ((1 ∷ ab) ++ (16 ∷ [])) ≡ 10 = length-append (1 ∷ ab) (16 ∷ []) ∙ omega (arith, second .1) in
-    let whole : (1 ∷ ab) ++ (16 ∷ []) ≡ moduleSection (s .args .s) = rw (config .ensures, preset .ensures) in
+    let whole : (1 ∷ ab) ++ (16 ∷ []) ≡ moduleFront (s .args .s) = rw (config .ensures, preset .ensures) in
     let two = pasted-next buf 0 (1 ∷ []) 1 ab (c .before .before .before .before .before .before .before .before .before .before .put-byte .ensures)
     (second .0) refl (omega (arith, second .1, s .pre)) in
     let all = pasted-next buf 0 (1 ∷ ab) 9 (16 ∷ []) two (c .before .before .put-byte2 .ensures) (omega (arith, second .1)) (omega (arith, s .pre)) in
