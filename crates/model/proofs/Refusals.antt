@@ -179,7 +179,8 @@ refusals = record { decided = decided; unchanged = unchanged; start = start; sto
 pub in-order : InOrder
 unfolding step place readReply writeReply levelReply currentReply powerUpReply storeReply powerUpAnswer storeAnswer written sharedWritten cleared
     watchdogPreset poweredUp Image.configAllowed Image.moduleConfigAllowed Image.sizeRight Image.countsRight Image.sumRight Image.valuesAllowed
-    Image.entriesAllowed Image.entryAllowed Image.encode Image.framed Image.summed Image.setupFrom Image.version Image.split Image.countsMatch Image.allAllowed Image.moduleAllowed Image.entriesBytes Image.entryBytes Image.decode Image.entriesFrom Image.entryFrom number
+    Image.entriesAllowed Image.entryAllowed Image.encode Image.framed Image.summed Image.setupFrom Image.version Image.split Image.countsMatch
+    Image.allAllowed Image.moduleAllowed Image.entriesBytes Image.entryBytes Image.decode Image.entriesFrom Image.entryFrom number
     bytesOf signedNumber signedBytes modulo signedBits realFrom realBytes from upTo ofBits toBits ofInt le lt
 in-order =
     record {

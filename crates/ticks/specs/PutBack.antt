@@ -5,5 +5,6 @@ use Rattle.model.specs.State.{channelWith, outTimer, fbTimer, outPreset, fbPres
 -- from `after`: the flags, OutTimer, FBTimer, the errors, the operating time; from `ch`: all else
 unfoldable pub putBack : Channel → Channel → Channel
 putBack after ch =
-    channelWith (ch .config) (after .flags) (outTimer after) (fbTimer after) (outPreset ch) (fbPreset ch) (ch .currents) (after .errors) (ch .counter) (after .operating)
+    channelWith (ch .config) (after .flags) (outTimer after) (fbTimer after) (outPreset ch) (fbPreset ch)
+    (ch .currents) (after .errors) (ch .counter) (after .operating)
     (ch .user) (ch .reals) (ch .maintenance) (ch .kept)

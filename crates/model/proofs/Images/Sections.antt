@@ -47,7 +47,8 @@ split-framed [] [] rest f = refl
 split-framed [] (c ∷ cs) rest f = absurd f
 split-framed (r ∷ rs) [] rest f = absurd f
 split-framed (r ∷ rs) (c ∷ cs) rest f =
-    ap₂ (λ (x : List ℕ) (xs : List (List ℕ)). x ∷ xs) (head-part r rs c cs rest (f .0)) (ap (split rs) (head-rest r rs c cs rest (f .0)) ∙ split-framed rs cs rest (f .1))
+    ap₂ (λ (x : List ℕ) (xs : List (List ℕ)). x ∷ xs) (head-part r rs c cs rest (f .0))
+    (ap (split rs) (head-rest r rs c cs rest (f .0)) ∙ split-framed rs cs rest (f .1))
 
 -- and the counts stand where they are looked for
 pub counts-framed : (rs : List Section) (cs : List (List ℕ)) (rest : List ℕ) → Fit rs cs → T (countsMatch rs (framed rs cs ++ rest))
@@ -90,6 +91,7 @@ pub version-length : (vs : List ℕ) (n : ℕ) → 0 < versionAmong vs n → n �
 version-length [] n h = absurd (omega arith)
 version-length (v ∷ vs) n h = go (eqb n (lengthOf v)) refl (version-length vs n) h
   where
-    go : (b : Bool) → eqb n (lengthOf v) ≡ b → (0 < versionAmong vs n → n ≡ lengthOf (versionAmong vs n)) → 0 < cond b v (versionAmong vs n) → n ≡ lengthOf (cond b v (versionAmong vs n))
+    go : (b : Bool) → eqb n (lengthOf v) ≡ b → (0 < versionAmong vs n → n ≡ lengthOf (versionAmong vs n)) → 0 < cond b v (versionAmong vs n)
+        → n ≡ lengthOf (cond b v (versionAmong vs n))
     go true e later k = eqb→eq n (lengthOf v) (subst T (sym e) tt)
     go false e later k = later k

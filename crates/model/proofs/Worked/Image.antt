@@ -24,7 +24,8 @@ pub worked-image : Stores
 unfolding played Calls.cleared Calls.watchdogPreset Calls.step Calls.run Calls.powerUp Calls.powerUpAnswer Calls.stored Channel.acknowledged Channel.changed
     Channel.inputBecomes Channel.takeLevel Channel.simulate Channel.tripped Channel.takeCurrent Channel.takeOut Channel.takeControl Channel.clearActs
     Channel.flagRegWritten Channel.outFlagsWritten Channel.chConfigWritten Errors.errorByte Errors.anyBit Errors.serviceByte Errors.anyService Errors.comBytes
-    Errors.commonErrorBytes Errors.serviceAcknowledged Image.entryBytes Image.entriesBytes Image.framed Image.summed Image.setupFrom Image.version Image.split Image.countsMatch Image.allAllowed Image.moduleAllowed Image.encode Image.entryFrom Image.entriesFrom
+    Errors.commonErrorBytes Errors.serviceAcknowledged Image.entryBytes Image.entriesBytes Image.framed Image.summed Image.setupFrom Image.version
+    Image.split Image.countsMatch Image.allAllowed Image.moduleAllowed Image.encode Image.entryFrom Image.entriesFrom
     Image.decode Image.sizeRight Image.countsRight Image.sumRight Image.configAllowed Image.moduleConfigAllowed Image.entryAllowed Image.entriesAllowed
     Image.valuesAllowed Image.restored Image.poweredUp Questions.readReply Questions.writeReply Questions.levelReply Questions.currentReply
     Questions.powerUpReply Questions.storeReply Reads.flagReg Reads.serviceBytes Reads.digitalBytes Reads.commonBytes Reads.bytesRead Reads.afterRead

@@ -183,7 +183,8 @@ module _ (X Y Z : Plain) (S : Grouped X Y Z) (B : Begun X Y) where
               (store-in ! 0 (sub ! 1 refl (whole !)) (Y .typed 𝓤 H A W (B .second r) (B .fields r _ isr .1))) $
               assigns ! (of-opd ! (lit ! tt)) (from ! (stop !)) (init ! 42 refl (tt, record { fits = lit< tt })) $
               forget ! 40 refl $
-              keep ! (0 ∷ 42 ∷ 38 ∷ 36 ∷ 34 ∷ 32 ∷ 30 ∷ 28 ∷ 26 ∷ 24 ∷ 22 ∷ 46 ∷ 44 ∷ 48 ∷ 40 ∷ 20 ∷ 18 ∷ 16 ∷ 14 ∷ 12 ∷ 10 ∷ 8 ∷ 6 ∷ 4 ∷ 1 ∷ 2 ∷ 3 ∷ 49 ∷ 47 ∷ 45 ∷ 43 ∷ 41
+              keep ! (0 ∷ 42 ∷ 38 ∷ 36 ∷ 34 ∷ 32 ∷ 30 ∷ 28 ∷ 26 ∷ 24 ∷ 22 ∷ 46 ∷ 44 ∷ 48 ∷ 40 ∷ 20 ∷ 18 ∷ 16 ∷ 14 ∷ 12 ∷ 10 ∷ 8 ∷ 6 ∷ 4 ∷ 1 ∷ 2 ∷ 3
+              ∷ 49 ∷ 47 ∷ 45 ∷ 43 ∷ 41
               ∷ 39 ∷ 37 ∷ 35 ∷ 33 ∷ 31 ∷ 29 ∷ 27 ∷ 25 ∷ 23 ∷ 21 ∷ 19 ∷ 17 ∷ 15 ∷ 13 ∷ 11 ∷ 9 ∷ 7 ∷ 5 ∷ []) $
               by ! (loop-walk X Y Z S B 𝓤 H A W key keeps g f κ q b o γ h Post r (related B′ r w isr) (few h r e) (S .items h)
               (exits r (items-are X Y Z S h is .1) e) 𝓣 known ends-with
@@ -203,7 +204,8 @@ module _ (X Y Z : Plain) (S : Grouped X Y Z) (B : Begun X Y) where
         goes = (goes-ref 𝓤 H A W 1 0 tt (plain (λ _. row S′)), tt)
 
         pub meets : (𝓣 : Tables 𝓤 H) → Triple 𝓤 (𝓣 .C start) (Started P) → Triple 𝓤 (𝓣 .C key) (Called X Y Z S B 𝓤 H A g)
-            → Triple 𝓤 (𝓣 .C keeps) (Kept X Y Z S B 𝓤 H A f) → Meets 𝓤 H A (outer .signature) (WpFn 𝓤 H (𝓣 .C) (𝓣 .Λ) (fn-of start key keeps)) (closing 𝓤 H A outer (exported Q))
+            → Triple 𝓤 (𝓣 .C keeps) (Kept X Y Z S B 𝓤 H A f)
+            → Meets 𝓤 H A (outer .signature) (WpFn 𝓤 H (𝓣 .C) (𝓣 .Λ) (fn-of start key keeps)) (closing 𝓤 H A outer (exported Q))
         meets 𝓣 starts known ends-with =
             walk-meets 𝓤 H A outer stayed W goes (exported Q) (WpFn 𝓤 H (𝓣 .C) (𝓣 .Λ) (fn-of start key keeps)) (WpFn-mono 𝓤 H (W .laws) 𝓣 (fn-of start key keeps))
             (all-walk 𝓣 starts known ends-with)

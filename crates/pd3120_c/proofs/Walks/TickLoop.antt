@@ -207,7 +207,8 @@ module _ (X Y Z : Plain) (S : Grouped X Y Z) (B : Begun X Y) where
               leaves-loop ! (load ! (from ! (stop !)) (look ! 2 refl)) $ exec ! C Λ En (second keeps) (atRet En Post) $
               assigns ! (of-opd ! (lit ! tt)) (from ! (stop !)) (store ! 1 refl (tt, record { fits = lit< tt })) $
               forget ! 2 refl $
-              keep ! (0 ∷ 1 ∷ 15 ∷ 16 ∷ 17 ∷ 18 ∷ 19 ∷ 20 ∷ 21 ∷ 22 ∷ 23 ∷ 11 ∷ 12 ∷ 13 ∷ 14 ∷ 2 ∷ 3 ∷ 4 ∷ 5 ∷ 6 ∷ 7 ∷ 8 ∷ 9 ∷ 10 ∷ 24 ∷ 25 ∷ 26 ∷ 27 ∷ 28 ∷ 29 ∷ 30 ∷ 31
+              keep ! (0 ∷ 1 ∷ 15 ∷ 16 ∷ 17 ∷ 18 ∷ 19 ∷ 20 ∷ 21 ∷ 22 ∷ 23 ∷ 11 ∷ 12 ∷ 13 ∷ 14 ∷ 2 ∷ 3 ∷ 4 ∷ 5 ∷ 6 ∷ 7 ∷ 8 ∷ 9 ∷ 10
+              ∷ 24 ∷ 25 ∷ 26 ∷ 27 ∷ 28 ∷ 29 ∷ 30 ∷ 31
               ∷ 32 ∷ 33 ∷ 34 ∷ 35 ∷ 36 ∷ 37 ∷ 38 ∷ 39 ∷ 40 ∷ 41 ∷ 42 ∷ 43 ∷ 44 ∷ 45 ∷ 46 ∷ 47 ∷ 48 ∷ 49 ∷ []) $
               by ! (save-walk X Y Z S B 𝓤 H A W keeps f κ q b o γ h Post r r-is few cs
               (subst (λ (ds : List (Z .D)). ent 𝓤 (Leaves (left-with X Y Z S B 𝓤 H A W keeps f r ds)) (Post vunit)) (sym all) exits) 𝓣 ends-with

@@ -135,7 +135,8 @@ module _ (X Y Z : Plain) (S : Grouped X Y Z) (B : Begun X Y) where
           -- the head of turn k, where the module has the items cs
           abbrev pub At : ℕ → List (Z .D) → List (Item 𝓤)
           At k cs =
-              ‵ (fat fullShare (S′ .mir) b o (parts X Y Z (B .first r) (B .second r) cs)) ∷ ‵ (fat fullShare (tyInt w64) l₃ 0 (vint w64 k)) ∷ ‵ (froom tyBool l₁₄ 0)
+              ‵ (fat fullShare (S′ .mir) b o (parts X Y Z (B .first r) (B .second r) cs)) ∷ ‵ (fat fullShare (tyInt w64) l₃ 0 (vint w64 k))
+              ∷ ‵ (froom tyBool l₁₄ 0)
               ∷ ‵ (froom (Z .mir) l₁₅ 0) ∷ ‵ (froom (tyInt w64) l₁₆ 0) ∷ ‵ (froom tyPtr l₁₇ 0) ∷ ‵ (froom tyPtr l₁₈ 0) ∷ ‵ (froom (Z .mir) l₁₉ 0)
               ∷ ‵ (froom (tyInt w64) l₂₀ 0) ∷ ‵ (froom tyPtr l₂₁ 0) ∷ ‵ (froom tyPtr l₂₂ 0) ∷ Frame
 
@@ -186,7 +187,8 @@ module _ (X Y Z : Plain) (S : Grouped X Y Z) (B : Begun X Y) where
                 assigns ! (bin ! (load ! (from ! (stop !)) (look ! 5 refl)) (load ! (from ! (stop !)) (look ! 4 refl)) tt) (from ! (stop !))
                 (init ! 6 refl (tt, tt)) $
                 assigns ! (of-opd ! (load ! (from ! (hop ! (look ! 6 refl) (stop !)))
-                (look-in ! 0 (elem ! (item-vals Z (S .count) cs good) k (Z .val (S .none)) (within Z (S .count) cs good (S .none) k in-all) (long Z (S .count) cs good)
+                (look-in ! 0 (elem ! (item-vals Z (S .count) cs good) k (Z .val (S .none)) (within Z (S .count) cs good (S .none) k in-all)
+                (long Z (S .count) cs good)
                 (sub ! 2 refl (whole !)))))) (from ! (stop !)) (init ! 7 refl (item-typed Z (S .count) cs good (S .none) k in-all 𝓤 H A W)) $
                 rewrite ! 7 (λ (u : Val). ‵ (fat fullShare (Z .mir) l₁₉ 0 u)) (item-val Z (S .count) cs good (S .none) k in-all) refl $
                 use0 W (raw (Called f .pre to-call)) goes-call $
@@ -203,7 +205,8 @@ module _ (X Y Z : Plain) (S : Grouped X Y Z) (B : Begun X Y) where
                 assigns ! (bin ! (load ! (from ! (stop !)) (look ! 9 refl)) (load ! (from ! (stop !)) (look ! 8 refl)) tt) (from ! (stop !))
                 (init ! 10 refl (tt, tt)) $
                 assigns ! (of-opd ! (load ! (from ! (stop !)) (look ! 3 refl))) (from ! (hop ! (look ! 10 refl) (stop !)))
-                (store-in ! 0 (elem ! (item-vals Z (S .count) cs good) k (Z .val (S .none)) (within Z (S .count) cs good (S .none) k in-all) (long Z (S .count) cs good)
+                (store-in ! 0 (elem ! (item-vals Z (S .count) cs good) k (Z .val (S .none)) (within Z (S .count) cs good (S .none) k in-all)
+                (long Z (S .count) cs good)
                 (sub ! 2 refl (whole !))) (Z .typed 𝓤 H A W z (related Z z w isz))) $
                 rewrite ! 0 (λ (ws : List Val). ‵ (fat fullShare (S′ .mir) b o
                 (vstruct (vcons (X .val (B .first r)) (vcons (Y .val (B .second r)) (vcons (vstruct (ofList ws)) vnil)))))) (moved Z cs k z) refl $
@@ -234,10 +237,13 @@ module _ (X Y Z : Plain) (S : Grouped X Y Z) (B : Begun X Y) where
               closes ! tt (row S′) (S .make (B .first r) (B .second r) cs) (parts X Y Z (B .first r) (B .second r) cs ∷ []) b o $
               -- [obs; the borrow; the token; _3; _14; … _22; _1; _2; _0; _4; _5; … _13; and that each local dies]
               returns ! (look ! 15 refl) $ forget ! 3 refl $ forget ! 4 refl $ forget ! 13 refl $ forget ! 14 refl $ forget ! 15 refl $
-              move ! (15 ∷ 26 ∷ []) $ free1 ! $ move ! (13 ∷ 25 ∷ []) $ free1 ! $ move ! (13 ∷ 24 ∷ []) $ free1 ! $ move ! (3 ∷ 23 ∷ []) $ free1 ! $ move ! (12 ∷ 22 ∷ []) $ free1 ! $ move ! (12 ∷ 21 ∷ []) $ free1 ! $
-              move ! (12 ∷ 20 ∷ []) $ free1 ! $ move ! (12 ∷ 19 ∷ []) $ free1 ! $ move ! (12 ∷ 18 ∷ []) $ free1 ! $ move ! (12 ∷ 17 ∷ []) $ free1 ! $ move ! (12 ∷ 16 ∷ []) $ free1 ! $ move ! (12 ∷ 15 ∷ []) $ free1 ! $
-              move ! (12 ∷ 14 ∷ []) $ free1 ! $ move ! (12 ∷ 13 ∷ []) $ free1 ! $ move ! (3 ∷ 12 ∷ []) $ free1 ! $ move ! (3 ∷ 11 ∷ []) $ free1 ! $ move ! (3 ∷ 10 ∷ []) $ free1 ! $ move ! (3 ∷ 9 ∷ []) $ free1 ! $
-              move ! (3 ∷ 8 ∷ []) $ free1 ! $ move ! (3 ∷ 7 ∷ []) $ free1 ! $ move ! (3 ∷ 6 ∷ []) $ free1 ! $ move ! (3 ∷ 5 ∷ []) $ free1 ! $ move ! (3 ∷ 4 ∷ []) $ free1 ! $ free0 ! $
+              move ! (15 ∷ 26 ∷ []) $ free1 ! $ move ! (13 ∷ 25 ∷ []) $ free1 ! $ move ! (13 ∷ 24 ∷ []) $ free1 ! $ move ! (3 ∷ 23 ∷ []) $ free1 ! $
+              move ! (12 ∷ 22 ∷ []) $ free1 ! $ move ! (12 ∷ 21 ∷ []) $ free1 ! $ move ! (12 ∷ 20 ∷ []) $ free1 ! $ move ! (12 ∷ 19 ∷ []) $ free1 ! $
+              move ! (12 ∷ 18 ∷ []) $ free1 ! $ move ! (12 ∷ 17 ∷ []) $ free1 ! $ move ! (12 ∷ 16 ∷ []) $ free1 ! $ move ! (12 ∷ 15 ∷ []) $ free1 ! $
+              move ! (12 ∷ 14 ∷ []) $ free1 ! $ move ! (12 ∷ 13 ∷ []) $ free1 ! $ move ! (3 ∷ 12 ∷ []) $ free1 ! $ move ! (3 ∷ 11 ∷ []) $ free1 ! $
+              move ! (3 ∷ 10 ∷ []) $ free1 ! $ move ! (3 ∷ 9 ∷ []) $ free1 ! $ move ! (3 ∷ 8 ∷ []) $ free1 ! $ move ! (3 ∷ 7 ∷ []) $ free1 ! $
+              move ! (3 ∷ 6 ∷ []) $ free1 ! $ move ! (3 ∷ 5 ∷ []) $ free1 ! $ move ! (3 ∷ 4 ∷ []) $ free1 ! $
+              free0 ! $
               rewrite ! 0 (λ (ds : List (Z .D)). ‵ (fobs γ (S .coded .code (S .make (B .first r) (B .second r) ds)))) all refl $
               keep ! (0 ∷ 1 ∷ 2 ∷ []) $ by ! exits
 

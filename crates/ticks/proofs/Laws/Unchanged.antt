@@ -49,8 +49,8 @@ rest ch =
 -- a channel with these parts
 abbrev with-rest : Rest → Channel → Channel
 with-rest x ch =
-    channelWith (x .config) (ch .flags) (outTimer ch) (fbTimer ch) (x .out-preset) (x .fb-preset) (x .currents) (ch .errors) (x .counter) (ch .operating) (x .user) (x .reals) (x .maintenance)
-    (x .kept)
+    channelWith (x .config) (ch .flags) (outTimer ch) (fbTimer ch) (x .out-preset) (x .fb-preset) (x .currents) (ch .errors) (x .counter) (ch .operating)
+    (x .user) (x .reals) (x .maintenance) (x .kept)
 
 put-back : (after ch : Channel) → rest after ≡ rest ch → putBack after ch ≡ after
 unfolding putBack

@@ -23,7 +23,8 @@ abbrev μ-loop : tie.MeasureT-loop
 loop-holds : tie.Need-loop-holds Inv-loop μ-loop
 loop-holds c =
     let a = c .args in
-    (search needs, sym (none (λ (j : ℕ) (ch : Channel). saved (a .due) (tickedBy (a .b) ch)) (below 0) (a .channels) (a .channels) (λ j l. le-ltb j 0 (omega arith))))
+    let g : ℕ → Channel → Channel = λ j ch. saved (a .due) (tickedBy (a .b) ch) in
+    (search needs, sym (none g (below 0) (a .channels) (a .channels) (λ j l. le-ltb j 0 (omega arith))))
 
 mul-ch : tie.Need-mul-ch Inv-loop μ-loop
 mul-ch c = search needs
