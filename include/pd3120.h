@@ -20,7 +20,7 @@
  * - a buffer is not null (checked; there it may be null where its length is 0);
  * - a buffer and the module have no byte in common (checked);
  * - no other thread uses the module or the buffer during the call;
- * - the stack has room for PD3120_STACK bytes; for a read, a write, a sample or a tick,
+ * - the stack has room for PD3120_STACK bytes; for a read, a write, a sample, a lookup or a tick,
  *   PD3120_CALL_STACK are enough.
  */
 #ifndef PD3120_H
@@ -28,6 +28,7 @@
 
 #include <stddef.h>
 #include <stdint.h>
+#include <string.h>
 #ifndef __cplusplus
 #include <stdbool.h>
 #endif
@@ -36,9 +37,12 @@
 extern "C" {
 #endif
 
-#define PD3120_MODULE_SIZE 1312 /* bytes */
-#define PD3120_MODULE_ALIGN 4   /* bytes */
-#define PD3120_IMAGE_SIZE 717   /* bytes of a setup image */
+#define PD3120_MODULE_SIZE 1496     /* bytes */
+#define PD3120_MODULE_ALIGN 4       /* bytes */
+#define PD3120_IMAGE_SIZE 886       /* bytes of a setup image, as it is stored */
+#define PD3120_OLDER_IMAGE_SIZE 717 /* bytes of one without the data channel; it still powers up */
+#define PD3120_PAIRS 10             /* of a level table */
+#define PD3120_TABLE_SIZE 80        /* bytes of a level table: of LookUp1 ($13C), of LookUp2 ($13D) */
 
 /*
  * Bytes of stack that no call goes beyond, counted from its return address down; the caller's own
@@ -46,8 +50,8 @@ extern "C" {
  * tests/c/stack.c holds every kind of call to them. What an interrupt puts on the same stack comes
  * on top, and so does a dynamic linker that looks for memcpy or memset at their first call.
  */
-#define PD3120_STACK 3584
-#define PD3120_CALL_STACK 512 /* of a read, a write, a level, a current or a tick */
+#define PD3120_STACK 4096
+#define PD3120_CALL_STACK 800 /* of a read, a write, a level, a current, a lookup or a tick */
 
 /* A box. Only the library looks inside. */
 typedef struct pd3120_module {
@@ -56,28 +60,30 @@ typedef struct pd3120_module {
 
 /*
  * The number of an answer: 0, or the question that was answered no. The questions are those of
- * document 01, "Questions in order".
+ * document 01, "Questions in order", and of document 02.
  */
 enum pd3120_numbers {
     PD3120_DONE = 0,
     /* wire calls */
-    PD3120_BEYOND = 1,           /* SWNo at most $11F? */
+    PD3120_BEYOND = 1,           /* SWNo at most $13F? */
     PD3120_UNLISTED = 2,         /* Register listed? */
     PD3120_NOT_WRITABLE = 3,     /* On a write, writable? */
     PD3120_WRONG_LENGTH = 4,     /* On a write, exact length? */
     PD3120_BUFFER_TOO_SHORT = 5, /* On a read, buffer long enough? */
     PD3120_NOT_ENABLED = 6,      /* On a write of a protected register, WriteEnable TRUE? */
-    PD3120_NOT_ALLOWED = 7,      /* On a write, value allowed? */
+    PD3120_NOT_ALLOWED = 7,      /* On a write, value allowed? On a lookup, X finite? */
     /* samples */
     PD3120_NO_CHANNEL = 8, /* Channel 1 to 16? */
     PD3120_NOT_FINITE = 9, /* Current finite? */
     /* power-up */
-    PD3120_IMAGE_LENGTH = 10, /* 717 bytes? */
+    PD3120_IMAGE_LENGTH = 10, /* 886 bytes, or 717? */
     PD3120_IMAGE_COUNTS = 11, /* Counts right? */
     PD3120_IMAGE_SUM = 12,    /* Sum right? */
     PD3120_IMAGE_VALUES = 13, /* Values allowed? */
     /* storing */
-    PD3120_NO_ROOM = 14, /* Buffer at least 717? */
+    PD3120_NO_ROOM = 14, /* Buffer at least 886? */
+    /* lookups: this one first, then 7 */
+    PD3120_NO_TABLE = 15, /* Table 1 or 2? */
     /* checked calls only, before the box is asked anything */
     PD3120_BAD_MODULE = 254, /* Module not null, and aligned? */
     PD3120_BAD_BUFFER = 255  /* Buffer not null, and apart from the module? */
@@ -114,30 +120,94 @@ static inline const char *pd3120_reason(uint32_t code)
 {
     switch (pd3120_number(code)) {
     case PD3120_DONE: return "The call is done.";
-    case PD3120_BEYOND: return "The SWNo is above $11F.";
+    case PD3120_BEYOND: return "The SWNo is above $13F.";
     case PD3120_UNLISTED: return "The SWNo has no register.";
     case PD3120_NOT_WRITABLE: return "The register is read only.";
     case PD3120_WRONG_LENGTH: return "The register has another length.";
     case PD3120_BUFFER_TOO_SHORT: return "The buffer is shorter than the register.";
     case PD3120_NOT_ENABLED: return "The register is protected and WriteEnable is FALSE.";
-    case PD3120_NOT_ALLOWED: return "The register does not allow the value.";
+    case PD3120_NOT_ALLOWED: return "The register does not allow the value, or X is not finite.";
     case PD3120_NO_CHANNEL: return "The channel is not from 1 to 16.";
     case PD3120_NOT_FINITE: return "The current is not finite.";
-    case PD3120_IMAGE_LENGTH: return "The setup image does not have 717 bytes.";
+    case PD3120_IMAGE_LENGTH: return "The setup image has neither 717 nor 886 bytes.";
     case PD3120_IMAGE_COUNTS: return "A count byte of the setup image is wrong.";
     case PD3120_IMAGE_SUM: return "The sum of the setup image is wrong.";
     case PD3120_IMAGE_VALUES: return "The setup image has a value that is not allowed.";
-    case PD3120_NO_ROOM: return "The buffer is shorter than 717 bytes.";
+    case PD3120_NO_ROOM: return "The buffer is shorter than 886 bytes.";
+    case PD3120_NO_TABLE: return "The table is not 1 or 2.";
     case PD3120_BAD_MODULE: return "The module is null or not aligned.";
     case PD3120_BAD_BUFFER: return "The buffer is null or overlaps the module.";
     default: return "The number is none of the library's.";
     }
 }
 
+/* The Real of 32 bits. */
+static inline float pd3120_real(uint32_t bits)
+{
+    float real;
+    memcpy(&real, &bits, sizeof real);
+    return real;
+}
+
+/*
+ * A lookup answers a code of its own: bits 0 to 31 the Real, bits 32 to 39 the number, which is one
+ * for pd3120_reason.
+ */
+static inline uint32_t pd3120_look_up_number(uint64_t code)
+{
+    return (uint32_t)(code >> 32) & 0xFFu;
+}
+
+static inline float pd3120_look_up_real(uint64_t code)
+{
+    return pd3120_real((uint32_t)(code & 0xFFFFFFFFu));
+}
+
+/* ---- Reals and level tables as a register's bytes ---- */
+
+static inline void pd3120_put_real(uint8_t bytes[4], float real)
+{
+    uint32_t bits;
+    memcpy(&bits, &real, sizeof bits);
+    for (int i = 0; i < 4; i++)
+        bytes[i] = (uint8_t)(bits >> (24 - 8 * i));
+}
+
+static inline float pd3120_get_real(const uint8_t bytes[4])
+{
+    uint32_t bits = 0;
+    for (int i = 0; i < 4; i++)
+        bits = bits << 8 | bytes[i];
+    return pd3120_real(bits);
+}
+
+/* A pair of a level table. X should rise from pair to pair; nothing tests it. */
+typedef struct pd3120_pair {
+    float x, y;
+} pd3120_pair;
+
+/* Ten pairs as the bytes of LookUp1 or LookUp2: X1 Y1 X2 Y2 ... X10 Y10. */
+static inline void pd3120_put_table(uint8_t bytes[PD3120_TABLE_SIZE], const pd3120_pair pairs[PD3120_PAIRS])
+{
+    for (int i = 0; i < PD3120_PAIRS; i++) {
+        pd3120_put_real(bytes + 8 * i, pairs[i].x);
+        pd3120_put_real(bytes + 8 * i + 4, pairs[i].y);
+    }
+}
+
+static inline void pd3120_get_table(pd3120_pair pairs[PD3120_PAIRS], const uint8_t bytes[PD3120_TABLE_SIZE])
+{
+    for (int i = 0; i < PD3120_PAIRS; i++) {
+        pairs[i].x = pd3120_get_real(bytes + 8 * i);
+        pairs[i].y = pd3120_get_real(bytes + 8 * i + 4);
+    }
+}
+
 /* ---- The proved functions ---- */
 
 /*
- * Powers the box up from a setup image.
+ * Powers the box up from a setup image of 886 bytes, or from an older one of 717, which leaves the
+ * data channel's values 0.
  * Answers number 0, or 10 to 13.
  * Changes the whole module: to the box of the image, or of all-zero settings where it is refused.
  */
@@ -145,8 +215,8 @@ uint32_t pd3120_power_up(pd3120_module *module, const uint8_t *image, size_t len
 
 /*
  * Stores the kept values as a setup image.
- * Answers number 0 and length 717, or number 14.
- * Changes the first 717 bytes of the buffer, nothing where it is refused.
+ * Answers number 0 and length 886, or number 14.
+ * Changes the first 886 bytes of the buffer, nothing where it is refused.
  */
 uint32_t pd3120_store(const pd3120_module *module, uint8_t *buffer, size_t length);
 
@@ -180,6 +250,15 @@ uint32_t pd3120_level(pd3120_module *module, uint8_t channel, bool on);
  * Changes that channel, nothing where it is refused.
  */
 uint32_t pd3120_current(pd3120_module *module, uint8_t channel, float amperes);
+
+/*
+ * The Y of a level table, 1 for LookUp1 or 2 for LookUp2, for an X: Y1 at or below X1, Y10 above X10,
+ * between two entries on the line from one to the other. A NaN has the bits $7FC00000.
+ * Answers number 0, 15 or 7, and the Real, 0 where it is refused; in 64 bits, which
+ * pd3120_look_up_number and pd3120_look_up_real take apart.
+ * Changes nothing. It is no wire call: the watchdog goes on.
+ */
+uint64_t pd3120_look_up(const pd3120_module *module, uint8_t table, float x);
 
 /* 1/32 s passes. Changes the module. */
 void pd3120_tick(pd3120_module *module);
@@ -265,6 +344,17 @@ static inline uint32_t pd3120_checked_tick(pd3120_module *module)
     if (refusal == PD3120_DONE)
         pd3120_tick(module);
     return refusal;
+}
+
+/* Answers the lookup's number. *level is then its Real, 0 where the lookup was refused. */
+static inline uint32_t pd3120_checked_look_up(const pd3120_module *module, uint8_t table, float x, float *level)
+{
+    uint32_t refusal = pd3120_check(module, level, sizeof *level);
+    if (refusal != PD3120_DONE)
+        return refusal;
+    uint64_t code = pd3120_look_up(module, table, x);
+    *level = pd3120_look_up_real(code);
+    return pd3120_look_up_number(code);
 }
 
 /* Answers number 0 where *on is now the channel's Output. */

@@ -1,7 +1,8 @@
 /*
  * Every function of the header, every number that it can answer, and the caller's memory around
  * each call: the module and the buffers stand between bytes that no call may touch. Here stand the
- * caller's memory and main; the parts stand in boundary_calls.c and boundary_checked.c.
+ * caller's memory and main; the parts stand in boundary_calls.c, boundary_data.c and
+ * boundary_checked.c.
  */
 #include "boundary.h"
 
@@ -87,10 +88,10 @@ bool alike(const pd3120_module *one, const pd3120_module *other)
         return false;
     if (memcmp(bytes_a, bytes_b, sizeof bytes_a) != 0)
         return false;
-    for (uint16_t swno = 0; swno <= 0x11F; swno++) {
-        if (pd3120_read(&a, swno, bytes_a, 12) != pd3120_read(&b, swno, bytes_b, 12))
+    for (uint16_t swno = 0; swno <= 0x13F; swno++) {
+        if (pd3120_read(&a, swno, bytes_a, PD3120_TABLE_SIZE) != pd3120_read(&b, swno, bytes_b, PD3120_TABLE_SIZE))
             return false;
-        if (memcmp(bytes_a, bytes_b, 12) != 0)
+        if (memcmp(bytes_a, bytes_b, PD3120_TABLE_SIZE) != 0)
             return false;
     }
     return true;
@@ -104,16 +105,20 @@ void put32(uint8_t *at, uint32_t value)
         at[i] = (uint8_t)(value >> (24 - 8 * i));
 }
 
-void put_sum(uint8_t *bytes)
+/* Ends an image of a length with its sum. */
+void put_sum(uint8_t *bytes, size_t length)
 {
     unsigned sum = 0;
-    for (size_t i = 0; i < PD3120_IMAGE_SIZE - 2; i++)
+    for (size_t i = 0; i < length - 2; i++)
         sum += bytes[i];
-    bytes[PD3120_IMAGE_SIZE - 2] = (uint8_t)(sum >> 8);
-    bytes[PD3120_IMAGE_SIZE - 1] = (uint8_t)sum;
+    bytes[length - 2] = (uint8_t)(sum >> 8);
+    bytes[length - 1] = (uint8_t)sum;
 }
 
-/* An image whose channels differ in all but ChConfig: watchdog off, every channel an output. */
+/*
+ * An image whose channels differ in all but ChConfig: watchdog off, every channel an output. RealA,
+ * RealB and the forty Reals of the tables are 1 and the next forty-one Reals after it.
+ */
 static void make_image(uint8_t *bytes)
 {
     uint8_t *at = bytes;
@@ -133,11 +138,23 @@ static void make_image(uint8_t *bytes)
         put32(at + 36, channel % 2 != 0 ? channel : -channel); /* Counter */
         put32(at + 40, 0xF0000000 + channel);                  /* operating count */
     }
+    *at++ = 1;
+    for (unsigned real = 0; real < 42; real++, at += 4)
+        put32(at, 0x3F800000 + real);
     *at = 1;
-    put_sum(bytes);
+    put_sum(bytes, PD3120_IMAGE_SIZE);
+}
+
+/* The same without the section of the data channel. */
+static void make_older(uint8_t *bytes)
+{
+    memcpy(bytes, image, PD3120_OLDER_IMAGE_SIZE);
+    bytes[PD3120_OLDER_IMAGE_SIZE - 3] = 1;
+    put_sum(bytes, PD3120_OLDER_IMAGE_SIZE);
 }
 
 uint8_t image[PD3120_IMAGE_SIZE];
+uint8_t older[PD3120_OLDER_IMAGE_SIZE];
 
 uint32_t power_up(const uint8_t *bytes, size_t length)
 {
@@ -155,11 +172,16 @@ int main(void)
     memset(box, 0, sizeof *box);
     CHECK((uintptr_t)box % 16 == 12);
     make_image(image);
+    make_older(older);
 
     answers();
     images();
     wire_calls();
     samples();
+    older_images();
+    table_bytes();
+    data_registers();
+    lookups();
     exact_blocks();
     checked_calls();
 

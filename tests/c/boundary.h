@@ -16,7 +16,7 @@ void check_at(const char *file, int line, const char *what, bool holds);
 
 #define CANARY 0xA5
 #define AROUND 13 /* bytes before and after a buffer; odd, so that no buffer is aligned */
-#define ROOM 800
+#define ROOM 1000
 
 extern pd3120_module *const box; /* between canaries */
 extern uint8_t memory[AROUND + ROOM + AROUND];
@@ -31,18 +31,23 @@ bool alike(const pd3120_module *one, const pd3120_module *other);
 
 /* ---- setup images ---- */
 
-extern uint8_t image[PD3120_IMAGE_SIZE]; /* as make_image makes it */
+extern uint8_t image[PD3120_IMAGE_SIZE];       /* as make_image makes it */
+extern uint8_t older[PD3120_OLDER_IMAGE_SIZE]; /* the same settings, without the data channel */
 
 void put32(uint8_t *at, uint32_t value);
-void put_sum(uint8_t *bytes);
+void put_sum(uint8_t *bytes, size_t length);
 uint32_t power_up(const uint8_t *bytes, size_t length);
 
-/* ---- the parts: boundary_calls.c, then boundary_checked.c ---- */
+/* ---- the parts: boundary_calls.c, boundary_data.c, then boundary_checked.c ---- */
 
 void answers(void);
 void images(void);
 void wire_calls(void);
 void samples(void);
+void older_images(void);
+void table_bytes(void);
+void data_registers(void);
+void lookups(void);
 void exact_blocks(void);
 void checked_calls(void);
 

@@ -9,14 +9,20 @@
 
 void answers(void)
 {
-    const uint32_t code = 7u | 717u << 8 | 1u << 24;
+    const uint32_t code = 7u | 886u << 8 | 1u << 24;
     CHECK(pd3120_number(code) == 7);
-    CHECK(pd3120_length(code) == 717);
+    CHECK(pd3120_length(code) == 886);
     CHECK(pd3120_data_error(code) && !pd3120_general_error(code));
     CHECK(!pd3120_data_error(1u << 25) && pd3120_general_error(1u << 25));
     CHECK(pd3120_number(0xFF00) == 0 && pd3120_length(0x03FFFFFF) == 0xFFFF);
 
-    static const uint8_t numbers[] = {0, 1, 2, 3, 4, 5, 6, 7, 8, 9, 10, 11, 12, 13, 14, 254, 255, 15};
+    /* A lookup's code, and a Real that is no number. */
+    const uint64_t looked_up = (uint64_t)15 << 32 | 0x3FC00000u;
+    CHECK(pd3120_look_up_number(looked_up) == 15);
+    CHECK(pd3120_look_up_real(looked_up) == 1.5f);
+    CHECK(pd3120_look_up_number(0x7FC00000u) == 0 && isnan(pd3120_look_up_real(0x7FC00000u)));
+
+    static const uint8_t numbers[] = {0, 1, 2, 3, 4, 5, 6, 7, 8, 9, 10, 11, 12, 13, 14, 15, 254, 255, 16};
     for (size_t i = 0; i < sizeof numbers; i++)
         for (size_t j = 0; j < i; j++)
             CHECK(strcmp(pd3120_reason(numbers[i]), pd3120_reason(numbers[j])) != 0);
@@ -43,14 +49,14 @@ void images(void)
     memcpy(wrong, image, sizeof image);
     CHECK(power_up(wrong, PD3120_IMAGE_SIZE + 1) == PD3120_IMAGE_LENGTH);
     wrong[9] = 15;
-    put_sum(wrong);
+    put_sum(wrong, PD3120_IMAGE_SIZE);
     CHECK(power_up(wrong, PD3120_IMAGE_SIZE) == PD3120_IMAGE_COUNTS);
     CHECK(alike(box, &refused));
     wrong[9] = 16;
     CHECK(power_up(wrong, PD3120_IMAGE_SIZE) == PD3120_IMAGE_SUM);
     CHECK(alike(box, &refused));
     wrong[2] = 1; /* Functions of ModuleConfig */
-    put_sum(wrong);
+    put_sum(wrong, PD3120_IMAGE_SIZE);
     CHECK(power_up(wrong, PD3120_IMAGE_SIZE) == PD3120_IMAGE_VALUES);
     CHECK(alike(box, &refused));
 
@@ -80,10 +86,13 @@ void wire_calls(void)
     pd3120_module before = *box;
 
     /* Every refusal of a wire call; the box is as before. */
-    CHECK(pd3120_number(wire_read(0x120, ROOM)) == PD3120_BEYOND);
+    CHECK(pd3120_number(wire_read(0x140, ROOM)) == PD3120_BEYOND);
     CHECK(pd3120_number(wire_read(0xFFFF, ROOM)) == PD3120_BEYOND);
-    CHECK(wire_write(0x120, zeros, 4) == PD3120_BEYOND);
+    CHECK(wire_write(0x140, zeros, 4) == PD3120_BEYOND);
     CHECK(pd3120_number(wire_read(0x01, ROOM)) == PD3120_UNLISTED);
+    CHECK(pd3120_number(wire_read(0x120, ROOM)) == PD3120_UNLISTED);
+    CHECK(wire_write(0x120, zeros, 4) == PD3120_UNLISTED);
+    CHECK(pd3120_number(wire_read(0x13F, ROOM)) == PD3120_UNLISTED);
     CHECK(wire_write(0x4E, zeros, 4) == PD3120_UNLISTED);
     CHECK(wire_write(0x00, zeros, 2) == PD3120_NOT_WRITABLE);
     CHECK(wire_write(0x42, counter, 3) == PD3120_WRONG_LENGTH);
@@ -98,7 +107,7 @@ void wire_calls(void)
     pd3120_tick(box);
     CHECK(reads(0x08, ticked, 4));
     pd3120_tick(box);
-    CHECK(pd3120_number(wire_read(0x120, ROOM)) == PD3120_BEYOND);
+    CHECK(pd3120_number(wire_read(0x140, ROOM)) == PD3120_BEYOND);
     CHECK(reads(0x08, full, 4));
 
     /* What is written is read, into a buffer of the exact length and into a longer one. */
@@ -110,7 +119,7 @@ void wire_calls(void)
     CHECK(wire_write(0x49, settings, 4) == PD3120_DONE);
     CHECK(reads(0x49, settings, 4));
     CHECK(reads(0x4C, image + 10 + 3 * 44 + 20, 8));
-    CHECK(reads(0x00, (const uint8_t[]){0x01, 0x1F}, 2));
+    CHECK(reads(0x00, (const uint8_t[]){0x01, 0x3F}, 2));
 
     /* GeneralError: His bit 7 of the power-up, until CommonError is written with zeros. */
     uint32_t code = wire_read(0x42, 4);
@@ -123,7 +132,7 @@ void wire_calls(void)
     CHECK(pd3120_write(box, 0x50, on, 1) == (PD3120_DONE | 1u << 24 | 1u << 25));
     code = wire_read(0x42, 4);
     CHECK(pd3120_data_error(code) && pd3120_general_error(code));
-    code = wire_read(0x120, 4);
+    code = wire_read(0x140, 4);
     CHECK(code == (PD3120_BEYOND | 1u << 24 | 1u << 25));
 }
 

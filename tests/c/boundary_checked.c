@@ -17,8 +17,8 @@ void exact_blocks(void)
     memcpy(setup, image, PD3120_IMAGE_SIZE);
     CHECK(pd3120_power_up(module, setup, PD3120_IMAGE_SIZE) == PD3120_DONE);
     CHECK(alike(module, module));
-    for (uint16_t swno = 0; swno <= 0x120; swno++)
-        for (size_t length = 0; length <= 12; length++) {
+    for (uint16_t swno = 0; swno <= 0x140; swno++)
+        for (size_t length = 0; length <= PD3120_TABLE_SIZE + 1; length++) {
             uint8_t *buffer = calloc(1, length + (length == 0));
             if (buffer == NULL)
                 exit(2);
@@ -32,8 +32,15 @@ void exact_blocks(void)
     CHECK(pd3120_current(module, 16, 1.0f) == PD3120_DONE);
     pd3120_tick(module);
     CHECK(!pd3120_output(module, 16));
+    CHECK(pd3120_look_up_number(pd3120_look_up(module, 2, 1.0f)) == PD3120_DONE);
     CHECK(pd3120_number(pd3120_store(module, stored, PD3120_IMAGE_SIZE)) == PD3120_DONE);
     CHECK(pd3120_power_up(module, stored, PD3120_IMAGE_SIZE) == PD3120_DONE);
+    uint8_t *short_setup = malloc(PD3120_OLDER_IMAGE_SIZE);
+    if (short_setup == NULL)
+        exit(2);
+    memcpy(short_setup, older, PD3120_OLDER_IMAGE_SIZE);
+    CHECK(pd3120_power_up(module, short_setup, PD3120_OLDER_IMAGE_SIZE) == PD3120_DONE);
+    free(short_setup);
     free(stored);
     free(setup);
     free(module);
@@ -44,6 +51,7 @@ void checked_calls(void)
     static const uint8_t history[12] = {0x80};
     uint8_t bytes[PD3120_IMAGE_SIZE] = {0};
     bool on = true;
+    float level = -1.0f;
 
     /* As the plain calls, where the pointers are good. */
     pd3120_module twin = {{0}};
@@ -64,6 +72,12 @@ void checked_calls(void)
     CHECK(alike(box, &twin));
     CHECK(pd3120_checked_output(box, 2, &on) == PD3120_DONE && !on);
     CHECK(pd3120_checked_output(box, 1, &on) == PD3120_DONE && on);
+    CHECK(pd3120_checked_look_up(box, 2, 1.0f, &level) == PD3120_DONE);
+    CHECK(level == pd3120_look_up_real(pd3120_look_up(&twin, 2, 1.0f)) && level > 1.0f);
+    CHECK(pd3120_checked_look_up(box, 0, 1.0f, &level) == PD3120_NO_TABLE && level == 0.0f);
+    level = -1.0f;
+    CHECK(pd3120_checked_look_up(box, 2, NAN, &level) == PD3120_NOT_ALLOWED && level == 0.0f);
+    level = -1.0f;
 
     /* No module, and modules that are not aligned. */
     pd3120_module before = *box;
@@ -77,6 +91,7 @@ void checked_calls(void)
         CHECK(pd3120_checked_current(bad, 1, 3.0f) == PD3120_BAD_MODULE);
         CHECK(pd3120_checked_tick(bad) == PD3120_BAD_MODULE);
         CHECK(pd3120_checked_output(bad, 2, &on) == PD3120_BAD_MODULE && on);
+        CHECK(pd3120_checked_look_up(bad, 2, 1.0f, &level) == PD3120_BAD_MODULE && level == -1.0f);
         CHECK(pd3120_checked_read(bad, 0x10, NULL, 1) == PD3120_BAD_MODULE);
     }
 
@@ -94,6 +109,8 @@ void checked_calls(void)
         CHECK(pd3120_checked_write(box, 0x42, bad[i].buffer, bad[i].length) == PD3120_BAD_BUFFER);
     }
     CHECK(pd3120_checked_output(box, 1, NULL) == PD3120_BAD_BUFFER);
+    CHECK(pd3120_checked_look_up(box, 2, 1.0f, NULL) == PD3120_BAD_BUFFER);
+    CHECK(pd3120_checked_look_up(box, 2, 1.0f, (float *)start) == PD3120_BAD_BUFFER);
     CHECK(pd3120_number(PD3120_BAD_BUFFER) == PD3120_BAD_BUFFER && pd3120_length(PD3120_BAD_BUFFER) == 0);
     CHECK(alike(box, &before) && arena_intact());
 
@@ -107,7 +124,7 @@ void checked_calls(void)
 
     /* No buffer, and no length: the box answers. */
     CHECK(pd3120_number(pd3120_checked_read(box, 0x42, NULL, 0)) == PD3120_BUFFER_TOO_SHORT);
-    CHECK(pd3120_number(pd3120_checked_read(box, 0x120, NULL, 0)) == PD3120_BEYOND);
+    CHECK(pd3120_number(pd3120_checked_read(box, 0x140, NULL, 0)) == PD3120_BEYOND);
     CHECK(pd3120_number(pd3120_checked_write(box, 0x42, NULL, 0)) == PD3120_WRONG_LENGTH);
     CHECK(pd3120_checked_store(box, NULL, 0) == PD3120_NO_ROOM);
     CHECK(alike(box, &before));

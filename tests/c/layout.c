@@ -36,9 +36,16 @@ AT(service, wd_timer, 0);
 AT(service, act, 4);
 AT(service, his, 7);
 _Static_assert(sizeof(struct service) == 12, "service");
+AT(data_channel, reals, 0);
+AT(data_channel, kept, 8);
+AT(data_channel, timers, 16);
+AT(data_channel, table1, 24);
+AT(data_channel, table2, 104);
+_Static_assert(sizeof(struct data_channel) == 184, "data_channel");
 AT(module, shared, 0);
 AT(module, service, 20);
 AT(module, channels, 32);
+AT(module, data_channel, 1312);
 _Static_assert(sizeof(struct module) == PD3120_MODULE_SIZE, "module");
 _Static_assert(_Alignof(struct module) == PD3120_MODULE_ALIGN, "module");
 _Static_assert(sizeof(pd3120_module) == PD3120_MODULE_SIZE, "pd3120_module");
@@ -141,6 +148,49 @@ static void last_channel(void)
     check(memcmp(last->maintenance, eight_bytes + 2, 4) == 0, "the maintenance bytes");
 }
 
+/* Whether a table has these ten pairs. The bits are compared, since 0 equals -0. */
+static bool has(const struct level_table *table, const pd3120_pair *pairs)
+{
+    for (int i = 0; i < PD3120_PAIRS; i++)
+        if (memcmp(&table->pairs[i].x, &pairs[i].x, sizeof(float)) != 0
+            || memcmp(&table->pairs[i].y, &pairs[i].y, sizeof(float)) != 0)
+            return false;
+    return true;
+}
+
+/* WriteEnable is TRUE, so RealA and RealB are kept; then it is FALSE, and they are not. */
+static void data_channel(void)
+{
+    static const uint8_t no[1] = {0};
+    const struct data_channel *data = &seen.data_channel;
+    pd3120_pair first[PD3120_PAIRS], second[PD3120_PAIRS];
+    uint8_t bytes[PD3120_TABLE_SIZE];
+
+    for (int i = 0; i < PD3120_PAIRS; i++) {
+        first[i] = (pd3120_pair){(float)i, -(float)i};
+        second[i] = (pd3120_pair){(float)i + 0.5f, (float)i * 100};
+    }
+    put(0x130, half, 4);
+    put(0x131, one, 4);
+    check(data->reals.a == 0.5f && data->kept.a == 0.5f, "RealA");
+    check(data->reals.b == 1.0f && data->kept.b == 1.0f, "RealB");
+    put(0x13A, one, 4);
+    put(0x13B, two, 4);
+    check(data->timers.a == 256 && data->timers.b == 512, "TimerA and TimerB");
+    pd3120_put_table(bytes, first);
+    put(0x13C, bytes, sizeof bytes);
+    pd3120_put_table(bytes, second);
+    put(0x13D, bytes, sizeof bytes);
+    check(has(&data->table1, first), "LookUp1");
+    check(has(&data->table2, second), "LookUp2");
+    put(0x0D, no, 1);
+    put(0x130, one, 4);
+    put(0x131, two, 4);
+    check(data->reals.a == 1.0f && data->kept.a == 0.5f, "RealA, not kept");
+    check(data->reals.b == 2.0f && data->kept.b == 1.0f, "RealB, not kept");
+    put(0x0D, yes, 1);
+}
+
 static void flags(void)
 {
     static const uint8_t one_shot[4] = {0, 0x20, 0, 0};
@@ -196,6 +246,7 @@ int main(void)
     printf("layout: a module has %zu bytes and is aligned to %zu\n", sizeof(pd3120_module), _Alignof(pd3120_module));
     shared_and_service();
     last_channel();
+    data_channel();
     flags();
     errors();
     if (failures != 0)

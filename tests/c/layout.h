@@ -70,10 +70,33 @@ struct service {
     struct service_bits act, his;
 };
 
+struct data_reals {
+    float a, b;
+};
+
+struct data_timers {
+    int32_t a, b; /* TimerCount */
+};
+
+struct pair {
+    float x, y;
+};
+
+struct level_table {
+    struct pair pairs[10];
+};
+
+struct data_channel {
+    struct data_reals reals, kept;
+    struct data_timers timers;
+    struct level_table table1, table2;
+};
+
 struct module {
     struct shared shared;
     struct service service;
     struct channel channels[16];
+    struct data_channel data_channel;
 };
 
 #endif

@@ -1,8 +1,8 @@
 /*
  * The stack of a call. Each call runs on a stack of its own, which was filled with a pattern before;
  * afterwards the lowest word that differs tells how deep the call went. No call may go deeper than
- * PD3120_STACK, no read, write, sample or tick deeper than PD3120_CALL_STACK, and the deepest of each
- * kind is printed.
+ * PD3120_STACK, no read, write, sample, lookup or tick deeper than PD3120_CALL_STACK, and the deepest
+ * of each kind is printed.
  *
  * For a build with -O2 and no sanitizer, which would use the stack as well.
  */
@@ -27,9 +27,10 @@ static void check(bool holds, const char *what)
 
 /* ---- calls ---- */
 
-enum kind { POWER_UP, STORE, READ, WRITE, LEVEL, CURRENT, TICK, OUTPUT, KINDS, NOTHING, KNOWN };
+enum kind { POWER_UP, STORE, READ, WRITE, LEVEL, CURRENT, LOOK_UP, TICK, OUTPUT, KINDS, NOTHING, KNOWN };
 
-static const char *const names[KINDS] = {"power_up", "store", "read", "write", "level", "current", "tick", "output"};
+static const char *const names[KINDS] = {"power_up", "store",   "read", "write", "level",
+                                         "current",  "look_up", "tick", "output"};
 
 struct call {
     enum kind kind;
@@ -37,13 +38,15 @@ struct call {
     uint8_t channel;
     bool on;
     float amperes;
+    uint8_t table;
+    float x;
     size_t length; /* of the buffer */
 };
 
 static pd3120_module box;
 static uint8_t buffer[PD3120_IMAGE_SIZE + 1];
 static struct call call;
-static volatile uint32_t answer;
+static volatile uint64_t answer;
 
 static void touch_nothing(void)
 {
@@ -78,6 +81,7 @@ static void make(void)
     case WRITE: answer = pd3120_write(&box, call.swno, buffer, call.length); break;
     case LEVEL: answer = pd3120_level(&box, call.channel, call.on); break;
     case CURRENT: answer = pd3120_current(&box, call.channel, call.amperes); break;
+    case LOOK_UP: answer = pd3120_look_up(&box, call.table, call.x); break;
     case TICK: pd3120_tick(&box); break;
     case OUTPUT: answer = pd3120_output(&box, call.channel); break;
     case KNOWN: known(); break;
@@ -144,7 +148,26 @@ static uint32_t put(uint16_t swno, const uint8_t *bytes, size_t length)
     return pd3120_number(pd3120_write(&box, swno, bytes, length));
 }
 
-/* Every channel with a function, two references and Enablebits of its own, some with errors. */
+/* A table that rises in each pair, and one that falls. */
+static void set_up_tables(void)
+{
+    pd3120_pair rising[PD3120_PAIRS], falling[PD3120_PAIRS];
+    uint8_t bytes[PD3120_TABLE_SIZE];
+
+    for (int i = 0; i < PD3120_PAIRS; i++) {
+        rising[i] = (pd3120_pair){(float)i / 3, (float)i * (float)i};
+        falling[i] = (pd3120_pair){-(float)i, (float)i};
+    }
+    pd3120_put_table(bytes, rising);
+    check(put(0x13C, bytes, sizeof bytes) == PD3120_DONE, "LookUp1 is not written");
+    pd3120_put_table(bytes, falling);
+    check(put(0x13D, bytes, sizeof bytes) == PD3120_DONE, "LookUp2 is not written");
+}
+
+/*
+ * Every channel with a function, two references and Enablebits of its own, some with errors; and both
+ * tables.
+ */
 static void set_up(uint8_t functions)
 {
     static const uint8_t yes[1] = {1}, watchdog_off[4] = {0, 0x10, 0, 0}, flags[1] = {0x88};
@@ -153,6 +176,7 @@ static void set_up(uint8_t functions)
     pd3120_power_up(&box, yes, sizeof yes);
     check(put(0x0D, yes, 1) == PD3120_DONE, "WriteEnable is not written");
     check(put(0x09, watchdog_off, 4) == PD3120_DONE, "ModuleConfig is not written");
+    set_up_tables();
     for (uint8_t channel = 1; channel <= 16; channel++) {
         const uint16_t swno = (uint16_t)(channel * 0x10);
         const uint8_t config[4] = {(uint8_t)(channel * 0x1D), functions, channel % 16 + 1, (channel + 1) % 16 + 1};
@@ -168,11 +192,11 @@ static void set_up(uint8_t functions)
 
 /* ---- what is measured, from the box as it is ---- */
 
-#define LAST_SWNO 0x13F
-#define LONGEST 13 /* bytes; one more than the longest register */
+#define LAST_SWNO 0x15F
+#define LONGEST (PD3120_TABLE_SIZE + 1) /* bytes; one more than the longest register */
 
 /* Flags, Reals and settings, allowed and not; a register takes as many bytes of one as it has. */
-static const uint8_t values[][12] = {
+static const uint8_t values[][PD3120_TABLE_SIZE] = {
     {0x00},
     {0x01},
     {0x02},
@@ -195,6 +219,7 @@ static const uint8_t values[][12] = {
     {0x00, 0x40},
     {0x00, 0x10, 17},
     {0xFF, 0xFF, 0xFF, 0xFF, 0xFF, 0xFF, 0xFF, 0xFF, 0xFF, 0xFF, 0xFF, 0xFF},
+    {[76] = 0x7F, [77] = 0x80}, /* Y10 of a table */
 };
 
 static void wire_calls(void)
@@ -240,6 +265,16 @@ static void samples_and_outputs(void)
     }
 }
 
+static void lookups(void)
+{
+    static const float xs[] = {0.0f, -0.0f, FLT_MIN / 2, 0.2f,    1.0f,     1.5f, 2.9f,     3.0f,
+                               3.5f, -4.5f, -20.0f,      FLT_MAX, -FLT_MAX, NAN,  INFINITY, -INFINITY};
+
+    for (unsigned table = 0; table <= UINT8_MAX; table++)
+        for (size_t i = 0; i < sizeof xs / sizeof xs[0]; i++)
+            measure((struct call){.kind = LOOK_UP, .table = (uint8_t)table, .x = xs[i]});
+}
+
 /* The last tick of ten hours, which saves. The count of the ticks before it is written into the box. */
 static void saving_tick(void)
 {
@@ -248,10 +283,13 @@ static void saving_tick(void)
     memcpy(&seen, &box, sizeof seen);
     seen.shared.save_ticks = 1151999;
     seen.channels[0].kept.counter = ~seen.channels[0].counter;
+    seen.data_channel.reals.a = 1.0f;
+    seen.data_channel.kept.a = 2.0f;
     memcpy(&box, &seen, sizeof seen);
     measure((struct call){.kind = TICK});
     memcpy(&seen, &box, sizeof seen);
-    check(seen.channels[0].kept.counter == seen.channels[0].counter, "the saving tick does not save");
+    check(seen.channels[0].kept.counter == seen.channels[0].counter, "the saving tick does not save Counter");
+    check(seen.data_channel.kept.a == 1.0f, "the saving tick does not save RealA");
 }
 
 static void ticks(void)
@@ -274,41 +312,55 @@ static void power_up(size_t length, uint32_t number)
     box = before;
 }
 
-/* Makes the sum of the buffer's image right. */
-static void put_sum(void)
+/* Makes the sum of the buffer's image of a length right. */
+static void put_sum(size_t length)
 {
     unsigned sum = 0;
-    for (size_t i = 0; i < PD3120_IMAGE_SIZE - 2; i++)
+    for (size_t i = 0; i < length - 2; i++)
         sum += buffer[i];
-    buffer[PD3120_IMAGE_SIZE - 2] = (uint8_t)(sum >> 8);
-    buffer[PD3120_IMAGE_SIZE - 1] = (uint8_t)sum;
+    buffer[length - 2] = (uint8_t)(sum >> 8);
+    buffer[length - 1] = (uint8_t)sum;
+}
+
+/* The buffer's image of a length, and images that differ from it. */
+static void image_and_others(size_t length)
+{
+    const size_t counts[] = {0, 9, PD3120_OLDER_IMAGE_SIZE - 3, length - 3};
+
+    power_up(length, PD3120_DONE);
+    for (size_t i = 0; i < sizeof counts / sizeof counts[0]; i++) {
+        buffer[counts[i]] ^= 0x20;
+        put_sum(length);
+        power_up(length, PD3120_IMAGE_COUNTS);
+        buffer[counts[i]] ^= 0x20;
+    }
+    power_up(length, PD3120_IMAGE_SUM);
+    /* Each byte changed in turn, with the sum made right: a count, a setting, or a value that is taken as it is. */
+    for (size_t i = 0; i < length - 2; i++) {
+        buffer[i] ^= 0xE0;
+        put_sum(length);
+        measure((struct call){.kind = POWER_UP, .length = length});
+        buffer[i] ^= 0xE0;
+    }
+    const uint8_t functions = buffer[2]; /* of ModuleConfig */
+    buffer[2] = 0x40;
+    put_sum(length);
+    power_up(length, PD3120_IMAGE_VALUES);
+    buffer[2] = functions;
+    put_sum(length);
 }
 
 static void images(void)
 {
-    static const size_t counts[] = {0, 9, PD3120_IMAGE_SIZE - 3};
-
     for (size_t length = 0; length <= sizeof buffer; length++)
         measure((struct call){.kind = STORE, .length = length});
     for (size_t length = 0; length <= sizeof buffer; length++)
-        power_up(length, length == PD3120_IMAGE_SIZE ? PD3120_DONE : PD3120_IMAGE_LENGTH);
-    for (size_t i = 0; i < sizeof counts / sizeof counts[0]; i++) {
-        buffer[counts[i]] ^= 0x20;
-        put_sum();
-        power_up(PD3120_IMAGE_SIZE, PD3120_IMAGE_COUNTS);
-        buffer[counts[i]] ^= 0x20;
-    }
-    power_up(PD3120_IMAGE_SIZE, PD3120_IMAGE_SUM);
-    /* Each byte changed in turn, with the sum made right: a count, a setting, or a value that is taken as it is. */
-    for (size_t i = 0; i < PD3120_IMAGE_SIZE - 2; i++) {
-        buffer[i] ^= 0xE0;
-        put_sum();
-        measure((struct call){.kind = POWER_UP, .length = PD3120_IMAGE_SIZE});
-        buffer[i] ^= 0xE0;
-    }
-    buffer[2] = 0x40; /* Functions of ModuleConfig */
-    put_sum();
-    power_up(PD3120_IMAGE_SIZE, PD3120_IMAGE_VALUES);
+        if (length != PD3120_IMAGE_SIZE && length != PD3120_OLDER_IMAGE_SIZE)
+            power_up(length, PD3120_IMAGE_LENGTH);
+    image_and_others(PD3120_IMAGE_SIZE);
+    /* The same settings without the data channel: the count before it is now the sum's. */
+    put_sum(PD3120_OLDER_IMAGE_SIZE);
+    image_and_others(PD3120_OLDER_IMAGE_SIZE);
 }
 
 static void every_call(void)
@@ -318,6 +370,7 @@ static void every_call(void)
 
     wire_calls();
     samples_and_outputs();
+    lookups();
     ticks();
     images();
     box = before;
@@ -334,6 +387,7 @@ static size_t bound_of(enum kind kind)
     case WRITE:
     case LEVEL:
     case CURRENT:
+    case LOOK_UP:
     case TICK:
         return PD3120_CALL_STACK;
     default:

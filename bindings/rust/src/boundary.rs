@@ -14,8 +14,8 @@
 
 use std::mem::MaybeUninit;
 
-/// A module has 1312 bytes, in words of the alignment that it asks for.
-const WORDS: usize = 328;
+/// A module has 1496 bytes, in words of the alignment that it asks for.
+const WORDS: usize = 374;
 
 /// The memory of a module. It begins as zeros, which are a value of every field
 /// of a module, and after that only the library writes it, so that it always
@@ -32,6 +32,7 @@ extern "C" {
     fn pd3120_write(m: *mut Module, swno: u16, bytes: *const u8, length: usize) -> u32;
     fn pd3120_level(m: *mut Module, channel: u8, on: bool) -> u32;
     fn pd3120_current(m: *mut Module, channel: u8, amperes: f32) -> u32;
+    fn pd3120_look_up(m: *const Module, table: u8, x: f32) -> u64;
     fn pd3120_tick(m: *mut Module);
     fn pd3120_output(m: *const Module, channel: u8) -> bool;
 }
@@ -85,6 +86,13 @@ impl Module {
         // SAFETY: `self` is a valid module that nobody else can reach during the
         // call; any channel number and any Real are values that the function takes.
         unsafe { pd3120_current(self, channel, amperes) }
+    }
+
+    #[inline]
+    pub fn look_up(&self, table: u8, x: f32) -> u64 {
+        // SAFETY: `self` is a valid module that is only read; any table number
+        // and any Real are values that the function takes.
+        unsafe { pd3120_look_up(self, table, x) }
     }
 
     #[inline]

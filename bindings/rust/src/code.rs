@@ -1,6 +1,6 @@
 //! The code of an answer, as `crates/pd3120_c/specs/Codes.antt` packs it: bits 0
 //! to 7 the number, bits 8 to 23 the length, bit 24 DataError, bit 25
-//! GeneralError.
+//! GeneralError. A lookup's: bits 0 to 31 the Real, bits 32 to 39 the number.
 
 use crate::{Answer, Error, ErrorBits, Refusal};
 
@@ -12,7 +12,7 @@ fn refusal(code: u32) -> Option<Refusal> {
         return None;
     }
     let refusal = Refusal::numbered(number as u8);
-    Some(refusal.expect("the library is proved to answer 0 to 14"))
+    Some(refusal.expect("the library is proved to answer 0 to 15"))
 }
 
 #[inline]
@@ -56,6 +56,13 @@ pub fn plain(code: u32) -> Result<usize, Error> {
     }
 }
 
+/// The Real that a lookup answers.
+#[inline]
+pub fn looked_up(code: u64) -> Result<f32, Error> {
+    plain((code >> 32) as u32)?;
+    Ok(f32::from_bits(code as u32))
+}
+
 #[cfg(test)]
 mod tests {
     use super::*;
@@ -79,7 +86,11 @@ mod tests {
             }),
         };
         assert_eq!(wire(0x0200_0007), Err(refused));
-        assert_eq!(plain(717 << 8), Ok(717));
+        assert_eq!(plain(886 << 8), Ok(886));
         assert_eq!(plain(14).map_err(|error| error.number()), Err(14));
+        let nan = looked_up(0x7FC0_0000).map(f32::to_bits);
+        assert_eq!(nan, Ok(0x7FC0_0000));
+        let refused = looked_up(15 << 32).map_err(|error| error.number());
+        assert_eq!(refused, Err(15));
     }
 }

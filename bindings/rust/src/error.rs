@@ -4,11 +4,11 @@ use crate::ErrorBits;
 use std::fmt;
 
 /// The reasons to refuse a call, with the numbers of document 01, "Questions in
-/// order". A call is refused for the first that applies.
+/// order", and of document 02. A call is refused for the first that applies.
 #[derive(Clone, Copy, Debug, PartialEq, Eq, Hash)]
 #[repr(u8)]
 pub enum Refusal {
-    /// A wire call: the SWNo is above $11F.
+    /// A wire call: the SWNo is above $13F.
     Beyond = 1,
     /// A wire call: no register is listed for the SWNo.
     Unlisted = 2,
@@ -20,13 +20,14 @@ pub enum Refusal {
     BufferTooShort = 5,
     /// A write: the register is protected and WriteEnable is FALSE.
     NotEnabled = 6,
-    /// A write: the register does not allow the value.
+    /// A write: the register does not allow the value. A lookup: X is no finite
+    /// Real.
     NotAllowed = 7,
     /// A sample: the channel is not from 1 to 16.
     NoChannel = 8,
     /// A current: it is no finite Real.
     NotFinite = 9,
-    /// Power-up: the image has not 717 bytes.
+    /// Power-up: the image has neither 717 nor 886 bytes.
     ImageLength = 10,
     /// Power-up: a section's count byte is wrong.
     ImageCounts = 11,
@@ -34,13 +35,15 @@ pub enum Refusal {
     ImageSum = 12,
     /// Power-up: a value in the image is not allowed.
     ImageValues = 13,
-    /// Storing: the buffer is shorter than 717 bytes.
+    /// Storing: the buffer is shorter than 886 bytes.
     NoRoom = 14,
+    /// A lookup: the table is not 1 or 2. This is asked before its X.
+    NoTable = 15,
 }
 
 impl Refusal {
     /// Every refusal, in the order of the numbers.
-    pub const ALL: [Refusal; 14] = [
+    pub const ALL: [Refusal; 15] = [
         Refusal::Beyond,
         Refusal::Unlisted,
         Refusal::NotWritable,
@@ -55,16 +58,17 @@ impl Refusal {
         Refusal::ImageSum,
         Refusal::ImageValues,
         Refusal::NoRoom,
+        Refusal::NoTable,
     ];
 
-    /// The refusal of a number, which is from 1 to 14.
+    /// The refusal of a number, which is from 1 to 15.
     #[inline]
     pub fn numbered(number: u8) -> Option<Refusal> {
         let index = usize::from(number).checked_sub(1)?;
         Refusal::ALL.get(index).copied()
     }
 
-    /// Document 01's number, from 1 to 14.
+    /// The papers' number, from 1 to 15.
     #[inline]
     pub fn number(self) -> u8 {
         self as u8
@@ -73,20 +77,21 @@ impl Refusal {
     /// A plain sentence.
     pub fn sentence(self) -> &'static str {
         match self {
-            Refusal::Beyond => "the SWNo is above $11F",
+            Refusal::Beyond => "the SWNo is above $13F",
             Refusal::Unlisted => "there is no register with this SWNo",
             Refusal::NotWritable => "the register can only be read",
             Refusal::WrongLength => "the register has not as many bytes as were written",
             Refusal::BufferTooShort => "the buffer is too short for the register",
             Refusal::NotEnabled => "the register is protected, and WriteEnable is off",
-            Refusal::NotAllowed => "the register does not allow this value",
+            Refusal::NotAllowed => "the register does not allow this value, or X is not finite",
             Refusal::NoChannel => "there is no such channel; they are numbered 1 to 16",
             Refusal::NotFinite => "the current is not a finite number",
-            Refusal::ImageLength => "the setup image has not 717 bytes",
+            Refusal::ImageLength => "the setup image has neither 717 nor 886 bytes",
             Refusal::ImageCounts => "a count byte of the setup image is wrong",
             Refusal::ImageSum => "the sum of the setup image is wrong",
             Refusal::ImageValues => "the setup image holds a value that is not allowed",
-            Refusal::NoRoom => "the buffer is too short for a setup image of 717 bytes",
+            Refusal::NoRoom => "the buffer is too short for a setup image of 886 bytes",
+            Refusal::NoTable => "there is no such table; they are numbered 1 and 2",
         }
     }
 }
@@ -109,7 +114,7 @@ pub struct Error {
 }
 
 impl Error {
-    /// Document 01's number, from 1 to 14.
+    /// The papers' number, from 1 to 15.
     #[inline]
     pub fn number(&self) -> u8 {
         self.refusal.number()
@@ -130,15 +135,15 @@ mod tests {
     use std::collections::BTreeSet;
 
     #[test]
-    fn each_number_from_1_to_14_has_a_refusal_and_a_sentence_of_its_own() {
+    fn each_number_from_1_to_15_has_a_refusal_and_a_sentence_of_its_own() {
         let mut sentences = BTreeSet::new();
-        for number in 1..=14 {
+        for number in 1..=15 {
             let refusal = Refusal::numbered(number).expect("listed");
             assert_eq!(refusal.number(), number);
             assert!(sentences.insert(refusal.sentence()), "{number}");
         }
         assert_eq!(Refusal::numbered(0), None);
-        assert_eq!(Refusal::numbered(15), None);
+        assert_eq!(Refusal::numbered(16), None);
     }
 
     #[test]
@@ -147,7 +152,7 @@ mod tests {
             refusal: Refusal::ImageLength,
             bits: None,
         };
-        let shown = "refused by 10: the setup image has not 717 bytes";
+        let shown = "refused by 10: the setup image has neither 717 nor 886 bytes";
         assert_eq!(error.to_string(), shown);
     }
 }

@@ -1,9 +1,10 @@
 //! The PD 3120 channel box, proved, as a safe Rust type.
 //!
 //! The box is the Rattle library of this repository: every call does what
-//! document 01 says, for any box, call and buffer, and this is proved. [`Pd3120`]
-//! reaches it through its C boundary. That this package declares the boundary as
-//! it is, no proof says; its tests and `tests/rust` compare it.
+//! document 01 and Change 1 of document 02 say, for any box, call and buffer, and
+//! this is proved. [`Pd3120`] reaches it through its C boundary. That this package
+//! declares the boundary as it is, no proof says; its tests and `tests/rust`
+//! compare it.
 //!
 //! `./pd3120 lib` builds the library's archive, which is linked in. PD3120_LIB
 //! can name another folder that has it.
@@ -32,14 +33,19 @@
 mod boundary;
 mod code;
 mod error;
+pub mod table;
 
 pub use error::{Error, Refusal};
+pub use table::Pair;
 
 use boundary::Module;
 use std::fmt;
 
-/// The length of a setup image.
-pub const IMAGE_LENGTH: usize = 717;
+/// The length of a setup image, as it is stored.
+pub const IMAGE_LENGTH: usize = 886;
+
+/// The length of a setup image without the data channel, which powers up too.
+pub const OLDER_IMAGE_LENGTH: usize = 717;
 
 /// The two bits that every wire call answers, done or refused.
 #[derive(Clone, Copy, Debug, PartialEq, Eq)]
@@ -61,7 +67,7 @@ pub struct Answer {
 
 /// A PD 3120 channel box, powered up.
 ///
-/// It is a plain value of 1312 bytes: it can be moved, cloned and sent to
+/// It is a plain value of 1496 bytes: it can be moved, cloned and sent to
 /// another thread, and nothing of it is held elsewhere.
 #[derive(Clone)]
 pub struct Pd3120 {
@@ -71,14 +77,15 @@ pub struct Pd3120 {
 // Every function of a call is `#[inline]`, here and below: in a program of another package nothing
 // then stands between the caller and the library's own function.
 impl Pd3120 {
-    /// The box that a setup image powers up to.
+    /// The box that a setup image powers up to. An older image, of 717 bytes,
+    /// leaves the values of the data channel 0.
     ///
     /// A refused image gives the box of all-zero settings on the hardware. Here
     /// that box is [`Pd3120::default`]:
     ///
     /// ```
     /// # use pd3120::Pd3120;
-    /// # let image = [0; 717];
+    /// # let image = [0; 886];
     /// let module = Pd3120::power_up(&image).unwrap_or_default();
     /// ```
     #[inline]
@@ -96,7 +103,7 @@ impl Pd3120 {
         Ok(())
     }
 
-    /// Puts the kept values into the first 717 bytes of a buffer, as a setup
+    /// Puts the kept values into the first 886 bytes of a buffer, as a setup
     /// image, and gives that length.
     #[inline]
     pub fn store(&self, buffer: &mut [u8]) -> Result<usize, Error> {
@@ -107,7 +114,7 @@ impl Pd3120 {
     #[inline]
     pub fn image(&self) -> [u8; IMAGE_LENGTH] {
         let mut image = [0; IMAGE_LENGTH];
-        self.store(&mut image).expect("717 bytes are enough");
+        self.store(&mut image).expect("886 bytes are enough");
         image
     }
 
@@ -138,6 +145,38 @@ impl Pd3120 {
     pub fn current(&mut self, channel: u8, amperes: f32) -> Result<(), Error> {
         code::plain(self.module.current(channel, amperes))?;
         Ok(())
+    }
+
+    /// The Y of a level table, 1 for LookUp1 or 2 for LookUp2, for a finite X: Y1
+    /// at or below X1, Y10 above X10, and between two entries on the line from one
+    /// to the other. No wire call: the watchdog goes on.
+    ///
+    /// ```
+    /// use pd3120::{table, Pair, Pd3120, Refusal};
+    ///
+    /// // The float of a tank: 40 litres a centimetre, from 80 litres on.
+    /// let pairs = [0, 1, 2, 3, 4, 5, 6, 7, 8, 9].map(|k| Pair {
+    ///     x: 10.0 * k as f32,
+    ///     y: 80.0 + 400.0 * k as f32,
+    /// });
+    /// let mut module = Pd3120::default();
+    /// module.write(0x0D, &[1])?; // WriteEnable
+    /// module.write(0x13C, &table::to_bytes(&pairs))?; // LookUp1
+    ///
+    /// assert_eq!(module.look_up(1, 20.0), Ok(880.0));
+    /// assert_eq!(module.look_up(1, 22.5), Ok(980.0));
+    /// assert_eq!(module.look_up(1, -3.0), Ok(80.0));
+    /// assert_eq!(module.look_up(1, 95.0), Ok(3680.0));
+    ///
+    /// let none = module.look_up(3, 20.0).unwrap_err();
+    /// assert_eq!(none.refusal, Refusal::NoTable);
+    /// let broken = module.look_up(1, f32::INFINITY).unwrap_err();
+    /// assert_eq!(broken.refusal, Refusal::NotAllowed);
+    /// # Ok::<(), pd3120::Error>(())
+    /// ```
+    #[inline]
+    pub fn look_up(&self, table: u8, x: f32) -> Result<f32, Error> {
+        code::looked_up(self.module.look_up(table, x))
     }
 
     /// A tick: 1/32 s passes.

@@ -3,7 +3,8 @@
 mod common;
 
 use common::{shown, used};
-use pd3120::{Pd3120, IMAGE_LENGTH};
+use pd3120::table::{self, PAIRS};
+use pd3120::{Pair, Pd3120, IMAGE_LENGTH, OLDER_IMAGE_LENGTH};
 use std::mem::size_of;
 use std::thread;
 
@@ -16,7 +17,7 @@ fn word(module: &mut Pd3120, swno: u16) -> [u8; 4] {
 
 #[test]
 fn a_box_is_its_module_and_nothing_else() {
-    assert_eq!(size_of::<Pd3120>(), 1312);
+    assert_eq!(size_of::<Pd3120>(), 1496);
 }
 
 #[test]
@@ -33,7 +34,7 @@ fn pulses_are_counted() {
 fn a_read_fills_the_front_of_the_buffer_and_leaves_the_rest() {
     let mut buffer = [0xA5; 5];
     let answer = Pd3120::default().read(0, &mut buffer).expect("done");
-    assert_eq!((answer.length, buffer), (2, [0x01, 0x1F, 0xA5, 0xA5, 0xA5]));
+    assert_eq!((answer.length, buffer), (2, [0x01, 0x3F, 0xA5, 0xA5, 0xA5]));
     assert!(answer.bits.general_error && !answer.bits.data_error);
 }
 
@@ -88,6 +89,82 @@ fn a_stored_image_powers_up_and_is_stored_again_as_the_same_bytes() {
     again.power_up_again(&image).expect("stored by a box");
     let first = Pd3120::power_up(&image).expect("stored by a box");
     assert_eq!(shown(&again), shown(&first));
+}
+
+#[test]
+fn an_older_image_powers_up_and_is_stored_with_zeros_for_the_data_channel() {
+    let image = used().image();
+    let mut older = image[..OLDER_IMAGE_LENGTH].to_vec();
+    let (before, place) = older.split_at_mut(OLDER_IMAGE_LENGTH - 2);
+    let sum: u16 = before.iter().map(|&byte| u16::from(byte)).sum();
+    place.copy_from_slice(&sum.to_be_bytes());
+    let module = Pd3120::power_up(&older).expect("an older image");
+    assert_eq!(module.image(), image);
+}
+
+/// A float of a tank: X volts at Y litres.
+fn with_tank() -> Pd3120 {
+    const LITRES: [f32; PAIRS] = [
+        80.0, 610.0, 1650.0, 2920.0, 4290.0, 5710.0, 7080.0, 8350.0, 9390.0, 10000.0,
+    ];
+    let pairs = std::array::from_fn(|k| Pair {
+        x: (k + 1) as f32 / 2.0,
+        y: LITRES[k],
+    });
+    let mut module = used();
+    module.write(0x0D, &[1]).expect("WriteEnable");
+    let bytes = table::to_bytes(&pairs);
+    module.write(0x13C, &bytes).expect("LookUp1");
+    module
+}
+
+#[test]
+fn a_table_is_read_back_and_looked_up() {
+    let mut module = with_tank();
+    let mut bytes = [0; table::LENGTH];
+    module.read(0x13C, &mut bytes).expect("LookUp1");
+    let pairs = table::from_bytes(&bytes);
+    for Pair { x, y } in pairs {
+        assert_eq!(module.look_up(1, x), Ok(y));
+        assert_eq!(module.look_up(2, x), Ok(0.0));
+    }
+    assert_eq!(module.look_up(1, 2.25), Ok(3605.0));
+    assert_eq!(module.look_up(1, -1.0), Ok(80.0));
+    assert_eq!(module.look_up(1, f32::MAX), Ok(10000.0));
+}
+
+#[test]
+fn a_nan_is_answered_with_its_one_pattern() {
+    let mut pairs = [f32::MAX; PAIRS].map(|most| Pair { x: most, y: most });
+    pairs[0] = Pair {
+        x: f32::MIN,
+        y: f32::MIN,
+    };
+    let mut module = with_tank();
+    let bytes = table::to_bytes(&pairs);
+    module.write(0x13D, &bytes).expect("LookUp2");
+    let level = module.look_up(2, 0.0).expect("a finite X");
+    assert_eq!(level.to_bits(), 0x7FC0_0000);
+}
+
+#[test]
+fn a_lookup_changes_nothing() {
+    let module = with_tank();
+    let before = shown(&module);
+    for table in [0, 1, 2, 3] {
+        let _ = module.look_up(table, 2.25);
+    }
+    assert_eq!(shown(&module), before);
+}
+
+#[test]
+fn real_a_is_kept_where_write_enable_is_on() {
+    let mut module = with_tank();
+    module.write(0x130, &1.5_f32.to_be_bytes()).expect("RealA");
+    module.write(0x0D, &[0]).expect("WriteEnable");
+    module.write(0x130, &2.5_f32.to_be_bytes()).expect("RealA");
+    assert_eq!(word(&mut module, 0x130), 2.5_f32.to_be_bytes());
+    assert_eq!(module.image()[715..719], 1.5_f32.to_be_bytes());
 }
 
 #[test]

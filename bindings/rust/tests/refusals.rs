@@ -6,6 +6,7 @@ use common::{shown, used};
 use pd3120::{Error, Pd3120};
 
 const LENT: [u8; 16] = [0xA5; 16];
+const INFINITE: [u8; 4] = f32::INFINITY.to_be_bytes();
 
 /// A read that must be refused, with its buffer untouched.
 fn refused_read(module: &mut Pd3120, swno: u16, length: usize) -> Error {
@@ -24,17 +25,22 @@ fn each_wire_call_is_refused_by_its_number_and_keeps_its_two_bits() {
     let mut module = used();
     let before = shown(&module);
     let refused = [
-        (1, refused_read(&mut module, 0x120, 16)),
+        (1, refused_read(&mut module, 0x140, 16)),
         (1, refused_write(&mut module, 0xFFFF, &[])),
         (2, refused_read(&mut module, 0x01, 16)),
+        (2, refused_read(&mut module, 0x120, 16)),
+        (2, refused_write(&mut module, 0x132, &[0; 4])),
         (2, refused_write(&mut module, 0x1E, &[0])),
         (3, refused_write(&mut module, 0x1F, &[0; 4])),
         (4, refused_write(&mut module, 0x10, &[0; 2])),
         (4, refused_write(&mut module, 0x10, &[])),
         (5, refused_read(&mut module, 0x12, 3)),
         (5, refused_read(&mut module, 0x12, 0)),
+        (5, refused_read(&mut module, 0x13D, 16)),
         (6, refused_write(&mut module, 0x19, &[0; 4])),
+        (6, refused_write(&mut module, 0x13C, &[0; 80])),
         (7, refused_write(&mut module, 0x0D, &[2])),
+        (7, refused_write(&mut module, 0x130, &INFINITE)),
     ];
     for (number, error) in refused {
         assert_eq!(error.number(), number, "{error}");
@@ -79,7 +85,7 @@ fn each_sample_is_refused_by_its_number() {
 #[test]
 fn storing_is_refused_without_room_and_leaves_the_buffer() {
     let module = used();
-    for length in [0, 1, 716] {
+    for length in [0, 1, 717, 885] {
         let mut buffer = vec![0xA5; length];
         let error = module.store(&mut buffer).unwrap_err();
         assert_eq!((error.number(), error.bits), (14, None));
@@ -87,15 +93,47 @@ fn storing_is_refused_without_room_and_leaves_the_buffer() {
     }
 }
 
+/// Makes the sum of an image right.
+fn seal(image: &mut [u8]) {
+    let (before, place) = image.split_at_mut(image.len() - 2);
+    let sum: u16 = before.iter().map(|&byte| u16::from(byte)).sum();
+    place.copy_from_slice(&sum.to_be_bytes());
+}
+
 /// An image with one byte changed, its sum made right again if asked.
 fn damaged(offset: usize, byte: u8, right_sum: bool) -> Vec<u8> {
     let mut image = Pd3120::default().image().to_vec();
     image[offset] = byte;
     if right_sum {
-        let sum: u16 = image[..715].iter().map(|&byte| u16::from(byte)).sum();
-        image[715..].copy_from_slice(&sum.to_be_bytes());
+        seal(&mut image);
     }
     image
+}
+
+/// An image with a RealA.
+fn with_real_a(real: [u8; 4]) -> Vec<u8> {
+    let mut image = Pd3120::default().image().to_vec();
+    image[715..719].copy_from_slice(&real);
+    seal(&mut image);
+    image
+}
+
+#[test]
+fn a_lookup_is_refused_by_its_table_and_then_by_its_x() {
+    let module = used();
+    let before = shown(&module);
+    let refused = [
+        (15, module.look_up(0, 1.0)),
+        (15, module.look_up(3, f32::NAN)),
+        (15, module.look_up(255, 0.0)),
+        (7, module.look_up(1, f32::NAN)),
+        (7, module.look_up(2, f32::NEG_INFINITY)),
+    ];
+    for (number, answer) in refused {
+        let error = answer.unwrap_err();
+        assert_eq!((error.number(), error.bits), (number, None));
+    }
+    assert_eq!(shown(&module), before);
 }
 
 #[test]
@@ -103,9 +141,14 @@ fn each_bad_image_is_refused_by_its_number_and_gives_the_box_of_zero_settings() 
     let bad = [
         (10, vec![]),
         (10, vec![1; 718]),
+        (10, vec![1; 885]),
+        (10, vec![1; 887]),
         (11, damaged(9, 15, true)),
         (12, damaged(1, 1, false)),
         (13, damaged(2, 0x20, true)),
+        (11, damaged(714, 2, true)),
+        (11, damaged(883, 2, true)),
+        (13, with_real_a(INFINITE)),
     ];
     for (number, image) in bad {
         let error = Pd3120::power_up(&image).unwrap_err();

@@ -4,9 +4,12 @@ ghost use mathlib.Core.Path.{_≡_};
 ghost use lib.ListN.{length};
 ghost use Rattle.integers.specs.Bytes.{number, signedNumber};
 ghost use Rattle.numbers.specs.Reals.{realFrom};
-ghost use Rattle.model.specs.Image.{configFrom, functionAllowed, configAllowed, moduleConfigAllowed};
+ghost use Rattle.model.specs.Lookup.{pairOf};
+ghost use Rattle.model.specs.Image.{part, configFrom, tableFrom, functionAllowed, configAllowed, moduleConfigAllowed, realAllowed, tableAllowed, tableSize};
 use integers::bytes;
 use model::Config;
+use model::LevelTable;
+use model::Pair;
 use numbers::reals;
 
 pub fn word_from(b: &[u8]) -> u16
@@ -85,4 +88,55 @@ pub fn module_config_allowed(bytes: &[u8]) -> bool
 {
     let n = bytes[1];
     (n == 0) | (n == 0x10)
+}
+
+// A Real of the data channel.
+pub fn real_allowed(b: &[u8]) -> bool
+    requires { ⌜ length (now b) ≡ 4 ⌝ }
+    ensures { λ r. ⌜ r ≡ realAllowed (now (b .entry)) ⌝ }
+{
+    reals::is_finite(real_from(b))
+}
+
+// Ten pairs of Reals.
+pub fn table_allowed(b: &[u8]) -> bool
+    requires { ⌜ length (now b) ≡ tableSize ⌝ }
+    ensures { λ r. ⌜ r ≡ tableAllowed (now (b .entry)) ⌝ }
+{
+    let mut all = true;
+    for k in 0..10 {
+        let at = 8 * k;
+        let middle = at + 4;
+        let end = at + 8;
+        let x = real_allowed(&b[at..middle]);
+        let y = real_allowed(&b[middle..end]);
+        all = all & (x & y);
+    }
+    all
+}
+
+fn pair_from(b: &[u8]) -> Pair
+    requires { ⌜ length (now b) ≡ 8 ⌝ }
+    ensures { λ r. ⌜ r ≡ pairOf (realFrom (part 0 4 (now (b .entry)))) (realFrom (part 4 4 (now (b .entry)))) ⌝ }
+{
+    Pair {
+        x: real_from(&b[0..4]),
+        y: real_from(&b[4..8]),
+    }
+}
+
+// A table's pairs: X1 Y1 X2 Y2 and so on.
+pub fn table_from(b: &[u8]) -> LevelTable
+    requires { ⌜ length (now b) ≡ tableSize ⌝ }
+    ensures { λ r. ⌜ r ≡ tableFrom (now (b .entry)) ⌝ }
+{
+    let first = pair_from(&b[0..8]);
+    let mut pairs = [first; 10];
+    for k in 0..10 {
+        let at = 8 * k;
+        let end = at + 8;
+        let pair = pair_from(&b[at..end]);
+        pairs[k] = pair;
+    }
+    LevelTable { pairs: pairs }
 }

@@ -1,5 +1,4 @@
 pub mod Lists
-pub mod Paste
 pub mod Sections
 pub mod Entries
 pub mod Halves

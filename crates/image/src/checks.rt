@@ -4,8 +4,9 @@ ghost use Prim.Native.Nat.{_*_, _≤_};
 ghost use lib.ListN.{length};
 ghost use Rattle.numbers.specs.Reals.{realFrom};
 ghost use Rattle.numbers.specs.Written.{limitAllowed};
-ghost use Rattle.model.specs.Image.{moduleSize, entrySize, imageSize, total, sizeRight, countsRight, sumRight};
-ghost use Rattle.model.specs.Image.{presetCountAllowed, moduleAllowed, entryAllowed, entriesAllowed, valuesAllowed};
+ghost use Rattle.model.specs.Image.{moduleSize, entrySize, dataSize, imageSize, total, sizeRight, countsRight, sumRight};
+ghost use Rattle.model.specs.Image.{presetCountAllowed, moduleAllowed, entryAllowed, entriesAllowed, keptAllowed, valuesAllowed};
+ghost use Rattle.image.specs.Lengths.{KnownLength};
 use crate::sizes;
 use integers::bytes;
 use numbers::written;
@@ -13,18 +14,23 @@ use numbers::written;
 pub(crate) fn size_right(img: &[u8]) -> bool
     ensures { λ r. ⌜ r ≡ sizeRight (now (img .entry)) ⌝ }
 {
-    img.len() == sizes::IMAGE
+    (img.len() == sizes::WITH_CHANNELS) | (img.len() == sizes::WITH_DATA)
 }
 
-// The other questions are put to an image that has its 717 bytes.
+// The other questions are put to an image of a known length.
 pub(crate) fn counts_right(img: &[u8]) -> bool
-    requires { ⌜ length (now img) ≡ imageSize ⌝ }
+    requires { ⌜ KnownLength (now img) ⌝ }
     ensures { λ r. ⌜ r ≡ countsRight (now (img .entry)) ⌝ }
 {
     let first = img[0] == sizes::ONE_MODULE;
     let second = img[sizes::SECOND_COUNT] == sizes::ALL_CHANNELS;
-    let third = img[sizes::THIRD_COUNT] == sizes::ONE_SUM;
-    first & (second & third)
+    if img.len() < sizes::WITH_DATA {
+        let third = img[sizes::THIRD_COUNT] == sizes::ONE_SUM;
+        return first & (second & third);
+    }
+    let third = img[sizes::THIRD_COUNT] == sizes::ONE_DATA;
+    let fourth = img[sizes::FOURTH_COUNT] == sizes::ONE_SUM;
+    first & (second & (third & fourth))
 }
 
 // The sum of the bytes.
@@ -41,12 +47,14 @@ pub(crate) fn sum(s: &[u8]) -> u32
     n
 }
 
+// The sum is the last two bytes, however long the image is.
 pub(crate) fn sum_right(img: &[u8]) -> bool
-    requires { ⌜ length (now img) ≡ imageSize ⌝ }
+    requires { ⌜ KnownLength (now img) ⌝ }
     ensures { λ r. ⌜ r ≡ sumRight (now (img .entry)) ⌝ }
 {
-    let told = bytes::u16_of_bytes(img[sizes::SUM], img[sizes::SUM + 1]);
-    let n = sum(&img[..sizes::SUM]);
+    let at = img.len() - sizes::SUM_BYTES;
+    let told = bytes::u16_of_bytes(img[at], img[at + 1]);
+    let n = sum(&img[..at]);
     (told as u32) == n % 65536
 }
 
@@ -102,11 +110,28 @@ fn entries_allowed(s: &[u8]) -> bool
     all
 }
 
+// RealA, RealB and both tables.
+fn data_allowed(s: &[u8]) -> bool
+    requires { ⌜ length (now s) ≡ dataSize ⌝ }
+    ensures { λ r. ⌜ r ≡ keptAllowed (now (s .entry)) ⌝ }
+{
+    let a = fields::real_allowed(&s[0..sizes::REAL_B]);
+    let b = fields::real_allowed(&s[sizes::REAL_B..sizes::TABLE1]);
+    let table1 = fields::table_allowed(&s[sizes::TABLE1..sizes::TABLE2]);
+    let table2 = fields::table_allowed(&s[sizes::TABLE2..sizes::DATA]);
+    a & (b & (table1 & table2))
+}
+
+// Every section that the image has.
 pub(crate) fn values_allowed(img: &[u8]) -> bool
-    requires { ⌜ length (now img) ≡ imageSize ⌝ }
+    requires { ⌜ KnownLength (now img) ⌝ }
     ensures { λ r. ⌜ r ≡ valuesAllowed (now (img .entry)) ⌝ }
 {
     let module = module_allowed(&img[sizes::OWN..sizes::SECOND_COUNT]);
     let entries = entries_allowed(&img[sizes::ENTRIES..sizes::THIRD_COUNT]);
-    module & entries
+    if img.len() < sizes::WITH_DATA {
+        return module & entries;
+    }
+    let data = data_allowed(&img[sizes::DATA_CHANNEL..sizes::FOURTH_COUNT]);
+    module & (entries & data)
 }

@@ -77,7 +77,7 @@ pub fn power_up(img: &[u8]) -> Started
     }
 }
 
-// Writes the kept values over the first 717 bytes of buf.
+// Writes the image of the kept values over the first bytes of buf.
 pub fn store(m: Module, buf: &mut [u8]) -> Reply
     ensures reply { λ r. ⌜ r ≡ storeReply (now (buf .entry)) ⌝ }
     ensures buffer { λ r. ⌜ now (buf .exit) ≡ stored m (now (buf .entry)) ⌝ }

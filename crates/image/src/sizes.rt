@@ -1,9 +1,12 @@
 // How long each section of the setup image is, and where each value stands.
 
-// The count bytes before the sections: of the box, of its channels, and of the sum.
+// The count bytes before the sections: of the box, of its channels, of the data channel, and of the
+// sum.
 pub const ONE_MODULE: u8 = 1;
 
 pub const ALL_CHANNELS: u8 = 16;
+
+pub const ONE_DATA: u8 = 1;
 
 pub const ONE_SUM: u8 = 1;
 
@@ -38,7 +41,19 @@ pub const OPERATING: usize = COUNTER + WORD;
 
 pub const ENTRY: usize = OPERATING + WORD;
 
-// The image: a count and the box's own section; a count and the entries; a count and the sum.
+// The data channel's section: RealA, RealB and two tables of ten pairs.
+pub const REAL_B: usize = WORD;
+
+pub const TABLE1: usize = REAL_B + WORD;
+
+pub const TABLE: usize = 10 * (2 * WORD);
+
+pub const TABLE2: usize = TABLE1 + TABLE;
+
+pub const DATA: usize = TABLE2 + TABLE;
+
+// The image: a count before each section and before the sum. One that is older than the data channel
+// has the sum's count in the place of the third.
 pub const OWN: usize = 1;
 
 pub const SECOND_COUNT: usize = OWN + MODULE;
@@ -47,6 +62,20 @@ pub const ENTRIES: usize = SECOND_COUNT + 1;
 
 pub const THIRD_COUNT: usize = ENTRIES + CHANNELS * ENTRY;
 
-pub const SUM: usize = THIRD_COUNT + 1;
+pub const DATA_CHANNEL: usize = THIRD_COUNT + 1;
 
-pub const IMAGE: usize = SUM + 2;
+pub const FOURTH_COUNT: usize = DATA_CHANNEL + DATA;
+
+pub const SUM: usize = FOURTH_COUNT + 1;
+
+// The sum's own bytes, and what stands at the end of every image: its count and those.
+pub const SUM_BYTES: usize = 2;
+
+const END: usize = 1 + SUM_BYTES;
+
+// How long an image is by the last section that it has, and what is stored.
+pub const WITH_CHANNELS: usize = THIRD_COUNT + END;
+
+pub const WITH_DATA: usize = FOURTH_COUNT + END;
+
+pub const IMAGE: usize = WITH_DATA;

@@ -1,10 +1,10 @@
 -- The facts of specs/Facts.antt about sizes and wire calls, by cases of the registers; those about one channel are in
 -- Facts/Steps. Assumes nothing.
 pub mod Steps
-use mathlib.Core.Path.{_≡_, refl}
+use mathlib.Core.Path.{_≡_, refl, ap, _∙_}
 use mathlib.Core.Bool.{Bool, false}
 use mathlib.Core.List.{List}
-use Prim.Native.Nat.{ℕ}
+use Prim.Native.Nat.{ℕ, _*_}
 use lib.ListN.{length}
 use Rattle.integers.specs.Bytes as Bytes
 use Rattle.numbers.specs.Reals as Reals
@@ -15,14 +15,16 @@ use Rattle.model.specs.declared.Reply.{Reply}
 use Rattle.model.specs.declared.ServiceRegister.{ServiceRegister}
 use Rattle.model.specs.declared.DigitalRegister.{DigitalRegister}
 use Rattle.model.specs.declared.CommonRegister.{CommonRegister}
+use Rattle.model.specs.declared.DataRegister.{DataRegister}
 use Rattle.model.specs.declared.Reply.the-variants.{Done, Refused}
 use Rattle.model.specs.declared.ServiceRegister.the-variants.{Highest, Reset, FreeRunTimer, WDTimer, ModuleConfig, WDPreset, WriteEnable, CommonError}
 use Rattle.model.specs.declared.DigitalRegister.the-variants.{FlagReg, OutTimer, Counter, OutCurrent, OperatingTime, UserBytes, FBTimer, FBPreset}
 use Rattle.model.specs.declared.DigitalRegister.the-variants.{OutPreset, ChConfig, MinCurrent, MaxCurrent, UserReals, Maintenance, ChError}
 use Rattle.model.specs.declared.CommonRegister.the-variants.{OutFlags, InFlags, IOChError, ChError as CommonChError}
-use Rattle.model.specs.State.{channelAt, writeEnable}
+use Rattle.model.specs.declared.DataRegister.the-variants.{RealA, RealB, TimerA, TimerB, LookUp1, LookUp2}
+use Rattle.model.specs.State.{dataChannel, channelAt, writeEnable}
 use Rattle.model.specs.Errors as Errors
-use Rattle.model.specs.Registers.{Place, service, digital, common, unlisted, place, size}
+use Rattle.model.specs.Registers.{Place, service, digital, common, data-channel, unlisted, place, size}
 use Rattle.model.specs.Reads as Reads
 use Rattle.model.specs.Reads.{bytesRead}
 use Rattle.model.specs.Tick as Tick
@@ -30,6 +32,7 @@ use Rattle.model.specs.Writes as Writes
 use Rattle.model.specs.Questions as Questions
 use Rattle.model.specs.Calls.{read, write, step, cleared, watchdogPreset, writeLeaves}
 use Rattle.model.specs.Facts.{Sized, Wired}
+use Rattle.model.proofs.Images.Data.{pairs-length}
 
 -- ---- sizes
 size-service : (r : ServiceRegister) (m : Module) → length (bytesRead (service r) m) ≡ size (service r)
@@ -76,8 +79,18 @@ size-common InFlags m = refl
 size-common IOChError m = refl
 size-common CommonChError m = refl
 
+size-data : (r : DataRegister) (m : Module) → length (dataChannel m .table1 .pairs) ≡ 10 → length (dataChannel m .table2 .pairs) ≡ 10 →
+    length (bytesRead (data-channel r) m) ≡ size (data-channel r)
+unfolding bytesRead Reads.dataBytes Bytes.bytesOf Reals.realBytes
+size-data RealA m e f = refl
+size-data RealB m e f = refl
+size-data TimerA m e f = refl
+size-data TimerB m e f = refl
+size-data LookUp1 m e f = pairs-length (dataChannel m .table1 .pairs) ∙ ap (λ (n : ℕ). 8 * n) e
+size-data LookUp2 m e f = pairs-length (dataChannel m .table2 .pairs) ∙ ap (λ (n : ℕ). 8 * n) f
+
 pub sized : Sized
-sized = record { services = size-service; digitals = size-digital; commons = size-common }
+sized = record { services = size-service; digitals = size-digital; commons = size-common; datas = size-data }
 
 -- ---- wire calls
 preset-by-read : (m : Module) (n : ℕ) (lent : List ℕ) → step m (read n lent) .box .service .«wd_timer» ≡ step m (read n lent) .box .shared .«wd_preset»
@@ -105,6 +118,7 @@ unfolding Writes.written
 written-clear (service r) bs m e = errors-clear r (m .service) e
 written-clear (digital k r) bs m e = e
 written-clear (common r) bs m e = e
+written-clear (data-channel r) bs m e = e
 written-clear unlisted bs m e = e
 
 cleared-by-write : (m : Module) (n : ℕ) (bs : List ℕ) → step m (write n bs) .box .service .act .«wd_run_out» ≡ false

@@ -7,9 +7,10 @@ use Rattle.model.specs.Listed.{Listed}
 use Rattle.model.proofs.Laws.Places.{place-cases}
 use Rattle.model.specs.Registers.{Place}
 
-beyond : (n : ℕ) → 0x120 ≤ n → place n ≡ unlisted
+beyond : (n : ℕ) → 0x140 ≤ n → place n ≡ unlisted
 beyond n h =
-    place-cases (λ (p : Place). p ≡ unlisted) n refl (λ e r q. absurd (omega arith)) (λ e r q. absurd (omega arith)) (λ l u r q. absurd (omega arith))
+    place-cases (λ (p : Place). p ≡ unlisted) n refl (λ e r q. absurd (omega arith)) (λ e r q. absurd (omega arith)) (λ e r q. absurd (omega arith))
+    (λ l u r q. absurd (omega arith))
 
 pub listed : Listed
 unfolding place

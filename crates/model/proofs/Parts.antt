@@ -2,6 +2,7 @@
 use mathlib.Core.Path.{refl}
 use mathlib.Core.List.{List}
 use lib.IntN.{ℤ}
+use lib.Ieee.{Float}
 use Rattle.counts.specs.declared.TimerCount.{TimerCount}
 use Rattle.counts.specs.declared.OperatingCount.{OperatingCount}
 use Rattle.model.specs.declared.Config.{Config}
@@ -9,7 +10,8 @@ use Rattle.model.specs.declared.Flags.{Flags}
 use Rattle.model.specs.declared.Currents.{Currents}
 use Rattle.model.specs.declared.Errors.{Errors}
 use Rattle.model.specs.declared.Kept.{Kept}
-use Rattle.model.specs.Parts.{ChannelParts, Parts}
+use Rattle.model.specs.declared.LevelTable.{LevelTable}
+use Rattle.model.specs.Parts.{ChannelParts, DataParts, Parts}
 use Prim.Native.Nat.{ℕ}
 
 channel-parts : (g : Config) (f : Flags) (ot ft op fp : TimerCount) (i : Currents) (e : Errors) (n : ℤ) (t : OperatingCount) (u r d : List ℕ) (k : Kept) →
@@ -45,10 +47,24 @@ channel-parts g f ot ft op fp i e n t u r d k =
       each-flag = λ o i′ c s m. (refl, refl, refl, refl, refl);
     }
 
+data-parts : (ra rb ka kb : Float) (ta tb : TimerCount) (l m : LevelTable) → DataParts ra rb ka kb ta tb l m
+data-parts ra rb ka kb ta tb l m =
+    record {
+      reals-a = λ x. refl;
+      reals-b = λ x. refl;
+      timers-a = λ x. refl;
+      timers-b = λ x. refl;
+      look-ups-1 = λ x. refl;
+      look-ups-2 = λ x. refl;
+      a-kept = refl;
+      b-kept = refl;
+    }
+
 pub parts : Parts
 parts =
     record {
       channels = channel-parts;
+      datas = data-parts;
       module-configs = λ r p g x w n. refl;
       wd-presets = λ r p x g w n. refl;
       write-enables = λ r p g w x n. refl;

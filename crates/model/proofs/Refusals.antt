@@ -6,7 +6,7 @@ use mathlib.Core.List.{List, [], _∷_, _++_, append-nil}
 use Prim.Native.Nat.{ℕ, zero, suc}
 use native.Mathlib.Omega.{arith}
 use lib.Dec.{T, leb}
-use lib.Ieee.{ofBits, toBits, ofInt, le, lt}
+use lib.Ieee.{Float, ofBits, toBits, ofInt, le, lt}
 use Rattle.integers.specs.Bytes.{number, bytesOf, signedNumber, signedBytes}
 use Rattle.integers.specs.Integers.{modulo, signedBits}
 use Rattle.numbers.specs.Reals.{realFrom, realBytes}
@@ -18,12 +18,15 @@ use Rattle.model.specs.declared.Reply.the-variants.{Done, Refused}
 use Rattle.model.specs.State.{writeEnable}
 use Rattle.model.specs.Registers.{Place, place}
 use Rattle.model.specs.Image as Image
-use Rattle.model.specs.Image.{poweredUp, zeroSetup}
+use Rattle.model.specs.Restored.{poweredUp, zeroSetup}
+use Rattle.model.specs.Reads.{pairsBytes}
 use Rattle.model.specs.Writes.{sharedWritten, written}
 use Rattle.model.specs.Questions.{Question, asked, refusalNumber, numberOf, readQuestions, writeQuestions, levelQuestions, currentQuestions}
-use Rattle.model.specs.Questions.{powerUpQuestions, storeQuestions, readReply, writeReply, levelReply, currentReply, powerUpReply, storeReply}
-use Rattle.model.specs.Calls.{Request, read, write, level, current, tick, sortOf, step, cleared, watchdogPreset, thenPreset, readAs}
-use Rattle.model.specs.Calls.{writtenAs}
+use Rattle.model.specs.Questions.{lookUpQuestions}
+use Rattle.model.specs.Questions.{powerUpQuestions, storeQuestions, readReply, writeReply, levelReply, currentReply, lookUpReply, powerUpReply}
+use Rattle.model.specs.Questions.{storeReply}
+use Rattle.model.specs.Calls.{Request, read, write, level, current, lookUp, tick, sortOf, step, cleared, watchdogPreset, thenPreset, readAs}
+use Rattle.model.specs.Calls.{writtenAs, lookedUpAs}
 use Rattle.model.specs.Calls.{plainAnswer, sampledAs, powerUp, poweredUpAs, powerUpAnswer, storeFills, stored, storeAnswer}
 use Rattle.model.specs.Refusals.{Asked, AllYes, FirstNo, Decides, Decided, Refusals, wireRefused, plainlyRefused, refusedBy, InOrder}
 
@@ -119,13 +122,14 @@ number-is (q ∷ qs) n = go (q .yes) (number-is qs n)
     go false later = refl
 
 decided : Decided
-unfolding step readReply writeReply levelReply currentReply powerUpAnswer powerUpReply storeAnswer storeReply
+unfolding step readReply writeReply levelReply currentReply lookUpReply powerUpAnswer powerUpReply storeAnswer storeReply
 decided =
     record {
       reads = λ m n lent. decides _ _ tt (number-is (readQuestions n (place n) lent) _);
       writes = λ m n bs. decides _ _ tt (number-is (writeQuestions (writeEnable (m .shared)) n (place n) bs) 0);
       levels = λ m k b. decides _ _ tt (number-is (levelQuestions k) 0);
       currents = λ m k x. decides _ _ tt (number-is (currentQuestions k x) 0);
+      look-ups = λ m k x. decides _ _ tt (number-is (lookUpQuestions k x) 0);
       power-ups = λ img. decides _ _ tt (number-is (powerUpQuestions img) 0);
       stores = λ m lent. decides _ _ tt (number-is (storeQuestions lent) _);
     }
@@ -145,12 +149,17 @@ sample-refused : (r : Reply) (k : ℕ) (ch : Channel) (m : Module) (n : ℕ) →
 sample-refused (Done i) k ch m n h = none h
 sample-refused (Refused q) k ch m n h = rw h
 
+look-up-refused : (r : Reply) (i : ℕ) (x : Float) (m : Module) (n : ℕ) → numberOf r ≡ suc n → lookedUpAs r i x m ≡ plainlyRefused m (suc n)
+look-up-refused (Done k) i x m n h = none h
+look-up-refused (Refused q) i x m n h = rw h
+
 unchanged : (m : Module) (x : Request) (n : ℕ) → step m x .answer .number ≡ suc n → step m x ≡ refusedBy (sortOf x) m (suc n)
 unfolding step
 unchanged m (read n lent) k h = read-refused (readReply n (place n) lent) (place n) lent m k h
 unchanged m (write n bs) k h = write-refused (writeReply (writeEnable (m .shared)) n (place n) bs) (place n) bs m k h
 unchanged m (level i b) k h = sample-refused (levelReply i) i _ m k h
 unchanged m (current i x) k h = sample-refused (currentReply i x) i _ m k h
+unchanged m (lookUp i x) k h = look-up-refused (lookUpReply i x) i x m k h
 unchanged m tick k h = none h
 
 -- ---- power-up and storing
@@ -163,12 +172,12 @@ start img n h = go (powerUpReply img) h
     go (Refused q) h = refl
 
 store : (m : Module) (lent : List ℕ) (n : ℕ) → storeAnswer m lent .number ≡ suc n →
-    storeAnswer m lent ≡ record { number = suc n; length = 0; buffer = lent; data-error = false; general-error = false }
+    storeAnswer m lent ≡ record { number = suc n; length = 0; buffer = lent; data-error = false; general-error = false; real-bits = 0 }
 unfolding stored storeAnswer
 store m lent n h = go (storeReply lent) h
   where
     go : (r : Reply) → numberOf r ≡ suc n →
-        plainAnswer r (storeFills r lent m) ≡ record { number = suc n; length = 0; buffer = lent; data-error = false; general-error = false }
+        plainAnswer r (storeFills r lent m) ≡ record { number = suc n; length = 0; buffer = lent; data-error = false; general-error = false; real-bits = 0 }
     go (Done k) h = none h
     go (Refused q) h = rw h
 
@@ -177,11 +186,12 @@ refusals = record { decided = decided; unchanged = unchanged; start = start; sto
 
 -- ---- an instance of every number, by computation
 pub in-order : InOrder
-unfolding step place readReply writeReply levelReply currentReply powerUpReply storeReply powerUpAnswer storeAnswer written sharedWritten cleared
+unfolding step place readReply writeReply levelReply currentReply lookUpReply powerUpReply storeReply powerUpAnswer storeAnswer written sharedWritten cleared
     watchdogPreset poweredUp Image.configAllowed Image.moduleConfigAllowed Image.sizeRight Image.countsRight Image.sumRight Image.valuesAllowed
-    Image.entriesAllowed Image.entryAllowed Image.encode Image.framed Image.summed Image.setupFrom Image.version Image.split Image.countsMatch
-    Image.allAllowed Image.moduleAllowed Image.entriesBytes Image.entryBytes Image.decode Image.entriesFrom Image.entryFrom number
-    bytesOf signedNumber signedBytes modulo signedBits realFrom realBytes from upTo ofBits toBits ofInt le lt
+    Image.entriesAllowed Image.entryAllowed Image.encode Image.framed Image.summed Image.setupFrom Image.version Image.split Image.contents Image.keptBytes
+    Image.keptFrom Image.pairsFrom Image.pairsAllowed Image.keptAllowed Image.countsMatch Image.allAllowed Image.moduleAllowed Image.entriesBytes
+    Image.entryBytes Image.decode Image.entriesFrom Image.entryFrom number pairsBytes bytesOf signedNumber signedBytes modulo signedBits realFrom realBytes
+    from upTo ofBits toBits ofInt le lt
 in-order =
     record {
       number1 = λ m. refl;
@@ -199,6 +209,9 @@ in-order =
       number12 = refl;
       number13 = refl;
       number14 = λ m. refl;
+      number15 = λ m. refl;
+      number7-lookup = λ m. refl;
+      number2-first = λ m. refl;
       done = refl;
       done-image = refl;
     }

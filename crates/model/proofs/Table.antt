@@ -11,7 +11,7 @@ use Rattle.model.specs.Channel.{changed, simulate, takeOut, takeControl,
 use Rattle.model.specs.Registers.{place}
 use Rattle.model.specs.Tick.{saveDue, tickShared, runsOut, tickService, shutDown, timersRun, oneShot, dutyCycle, overloaded, guarded, driven, lookDue}
 use Rattle.model.specs.Tick.{looked, judged, saved, reviewed, ticked}
-use Rattle.model.specs.Image.{restored, poweredUp}
+use Rattle.model.specs.Restored.{restored, poweredUp}
 use Rattle.model.specs.Writes.{digitalWritten, written}
 use Rattle.model.specs.Reads.{digitalBytes, bytesRead, afterRead}
 use Rattle.model.specs.Questions.{readReply, writeReply}

@@ -4,3 +4,4 @@ pub mod Effects
 pub mod Ticks
 pub mod Saves
 pub mod Image
+pub mod Levels

@@ -1,23 +1,26 @@
--- Document 01, Calls 1 to 8, with Questions 16 to 18 and Setup image 4: what each call answers and leaves, for any box, call and buffer; a list of calls;
--- power-up and storing. Definitions only.
+-- Document 01, Calls 1 to 8, with Questions 16 to 18 and Setup image 4, and document 02, Change 1, 3: what each call answers and leaves, for any box, call and
+-- buffer; a list of calls; power-up and storing. Definitions only.
 use mathlib.Core.Bool.{Bool, false}
 use mathlib.Core.List.{List, [], _∷_, _++_}
 use Prim.Native.Nat.{ℕ}
 use lib.ListN.{length, drop}
 use lib.Ieee.{Float}
 use Rattle.model.specs.declared.Channel.{Channel}
+use Rattle.model.specs.declared.DataChannel.{DataChannel}
 use Rattle.model.specs.declared.Module.{Module}
 use Rattle.model.specs.declared.Reply.{Reply}
 use Rattle.model.specs.declared.Reply.the-variants.{Done, Refused}
-use Rattle.model.specs.State.{wdTimer, wdPreset, writeEnable, serviceOf, withServiceRecord, channelAt, putChannel}
+use Rattle.model.specs.State.{wdTimer, wdPreset, writeEnable, serviceOf, dataChannel, withServiceRecord, channelAt, putChannel}
 use Rattle.model.specs.Channel.{takeLevel, takeCurrent}
 use Rattle.model.specs.Errors.{dataError, generalError}
 use Rattle.model.specs.Registers.{Place, channelOf, place}
+use Rattle.model.specs.Lookup.{levelBits}
 use Rattle.model.specs.Reads.{bytesRead, afterRead}
 use Rattle.model.specs.Writes.{written}
 use Rattle.model.specs.Tick.{withRunOut, ticked}
-use Rattle.model.specs.Image.{setupOf, encode, decode, poweredUp, zeroSetup}
-use Rattle.model.specs.Questions.{numberOf, lengthOf, readReply, writeReply, levelReply, currentReply, powerUpReply, storeReply}
+use Rattle.model.specs.Image.{setupOf, encode, decode}
+use Rattle.model.specs.Restored.{poweredUp, zeroSetup}
+use Rattle.model.specs.Questions.{numberOf, lengthOf, readReply, writeReply, levelReply, currentReply, lookUpReply, powerUpReply, storeReply}
 
 -- ---- Calls 1: a call of a list, with all that it carries (Two lists 6)
 pub data Request : Type 0 where
@@ -25,6 +28,7 @@ pub data Request : Type 0 where
   write : ℕ → List ℕ → Request
   level : ℕ → Bool → Request
   current : ℕ → Float → Request
+  lookUp : ℕ → Float → Request
   tick : Request
 
 -- Two lists 3: whose a call is
@@ -44,6 +48,7 @@ sortOf (read n lent) = aRead (channel (channelOf n)) lent
 sortOf (write n bs) = aWrite n bs
 sortOf (level k b) = aLocalCall (channel k)
 sortOf (current k x) = aLocalCall (channel k)
+sortOf (lookUp k x) = aLocalCall everyone
 sortOf tick = aTick
 
 -- ---- Calls 5 and 6: an answer in the paper's numbers. What a call does not answer is 0, empty or FALSE
@@ -53,22 +58,24 @@ pub record Answer : Type 0 where
   pub buffer : List ℕ
   pub data-error : Bool
   pub general-error : Bool
+  -- Change 1, 7: the bits of a lookup's Real
+  pub real-bits : ℕ
 
 pub record Stepped : Type 0 where
   pub answer : Answer
   pub box : Module
 
 -- from a reply, whose case gives the number and the length; the buffer afterwards; DataError and GeneralError
-abbrev pub answerOf : Reply → List ℕ → Bool → Bool → Answer
-answerOf r buf d g = record { number = numberOf r; length = lengthOf r; buffer = buf; data-error = d; general-error = g }
+abbrev pub answerOf : Reply → List ℕ → Bool → Bool → ℕ → Answer
+answerOf r buf d g bits = record { number = numberOf r; length = lengthOf r; buffer = buf; data-error = d; general-error = g; real-bits = bits }
 
 -- of a wire call; the two bits are taken of m
 abbrev pub wireAnswer : Reply → List ℕ → Module → Answer
-wireAnswer r buf m = answerOf r buf (dataError m) (generalError m)
+wireAnswer r buf m = answerOf r buf (dataError m) (generalError m) 0
 
--- of every other call
+-- of every call that is none, but a lookup
 abbrev pub plainAnswer : Reply → List ℕ → Answer
-plainAnswer r buf = answerOf r buf false false
+plainAnswer r buf = answerOf r buf false false 0
 
 -- ---- Calls 4: a wire call
 -- it clears service Act bit 3 first
@@ -116,12 +123,21 @@ sampleLeaves (Refused r) k ch m = m
 abbrev pub sampledAs : Reply → ℕ → Channel → Module → Stepped
 sampledAs r k ch m = record { answer = plainAnswer r []; box = sampleLeaves r k ch m }
 
+-- ---- Change 1, 3: a lookup in the box m, which it leaves as it is; refused, its Real is 0
+abbrev pub lookedUpBits : Reply → ℕ → Float → DataChannel → ℕ
+lookedUpBits (Done n) k x d = levelBits k x d
+lookedUpBits (Refused r) k x d = 0
+
+abbrev pub lookedUpAs : Reply → ℕ → Float → Module → Stepped
+lookedUpAs r k x m = record { answer = answerOf r [] false false (lookedUpBits r k x (dataChannel m)); box = m }
+
 -- ---- one call on any box
 unfoldable pub step : Module → Request → Stepped
 step m (read n lent) = thenPreset (readAs (readReply n (place n) lent) (place n) lent (cleared m))
 step m (write n bs) = thenPreset (writtenAs (writeReply (writeEnable (m .shared)) n (place n) bs) (place n) bs (cleared m))
 step m (level k b) = sampledAs (levelReply k) k (takeLevel b (channelAt m k)) m
 step m (current k x) = sampledAs (currentReply k x) k (takeCurrent (m .shared) x (channelAt m k)) m
+step m (lookUp k x) = lookedUpAs (lookUpReply k x) k x m
 step m tick = record { answer = plainAnswer (Done 0) []; box = ticked m }
 
 -- demand 3: each call gets the box that the last one left

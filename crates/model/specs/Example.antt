@@ -11,7 +11,7 @@ use Rattle.counts.specs.Counts.{timer}
 use Rattle.model.specs.declared.Module.{Module}
 use Rattle.model.specs.State.{config, channelAt, inFlag}
 use Rattle.model.specs.Settings.{output}
-use Rattle.model.specs.Image.{Entry, Setup, entrySize, entryFrom, encode}
+use Rattle.model.specs.Image.{Entry, Setup, entrySize, entryFrom, dataSize, keptFrom, encode}
 use Rattle.model.specs.Calls.{Request, read, write, level, current, tick, run, powerUp, powerUpAnswer}
 use Rattle.model.specs.TwoLists.{allNamed, struck, marks}
 
@@ -38,6 +38,7 @@ setup =
       module-config = config 0 0 0 0;
       wd-preset = timer (pos 256);
       entries = outputWith 2 ∷ entryFrom (replicate entrySize 0) ∷ outputWith 0 ∷ replicate 13 (entryFrom (replicate entrySize 0));
+      data-kept = keptFrom (replicate dataSize 0);
     }
 
 unfoldable pub image : List ℕ

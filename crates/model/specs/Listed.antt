@@ -1,14 +1,17 @@
--- Document 01, Registers: the table as one fact over every SWNo, with each register's access and size. The proof is in proofs/Listed.antt.
+-- Document 01, Registers, and document 02, Change 1, 2 and 12: the table as one fact over every SWNo, with each register's access and size. The proof is in
+-- proofs/Listed.antt.
 use mathlib.Core.Path.{_≡_}
 use mathlib.Core.List.{List, [], _∷_, _++_, map}
 use Prim.Native.Nat.{ℕ, zero, suc, _+_, _*_, _≤_}
+use lib.ListN.{replicate}
 use Rattle.model.specs.declared.Access.{Access}
 use Rattle.model.specs.declared.Access.the-variants.{ReadOnly, Writable, Protected}
 use Rattle.model.specs.declared.ServiceRegister.the-variants.{Highest, Reset, FreeRunTimer, WDTimer, ModuleConfig, WDPreset, WriteEnable, CommonError}
 use Rattle.model.specs.declared.DigitalRegister.the-variants.{FlagReg, OutTimer, Counter, OutCurrent, OperatingTime, UserBytes, FBTimer}
 use Rattle.model.specs.declared.DigitalRegister.the-variants.{FBPreset, OutPreset, ChConfig, MinCurrent, MaxCurrent, UserReals, Maintenance, ChError}
 use Rattle.model.specs.declared.CommonRegister.the-variants.{OutFlags, InFlags, IOChError, ChError as CommonChError}
-use Rattle.model.specs.Registers.{Place, service, digital, common, unlisted, place, access, size}
+use Rattle.model.specs.declared.DataRegister.the-variants.{RealA, RealB, TimerA, TimerB, LookUp1, LookUp2}
+use Rattle.model.specs.Registers.{Place, service, digital, common, data-channel, unlisted, place, access, size}
 
 -- what the table says of a SWNo
 pub record Shown : Type 0 where
@@ -58,8 +61,14 @@ commonTable =
     W (common OutFlags) 2 ∷ W (common InFlags) 2 ∷ R (common IOChError) 4 ∷ none ∷ none ∷ none ∷ none ∷ none
     ∷ none ∷ none ∷ none ∷ none ∷ none ∷ none ∷ none ∷ R (common CommonChError) 4 ∷ []
 
+abbrev pub dataTable : List Shown
+dataTable =
+    let r = data-channel in
+    W (r RealA) 4 ∷ W (r RealB) 4 ∷ none ∷ none ∷ none ∷ none ∷ none ∷ none
+    ∷ none ∷ none ∷ W (r TimerA) 4 ∷ W (r TimerB) 4 ∷ P (r LookUp1) 80 ∷ P (r LookUp2) 80 ∷ none ∷ none ∷ []
+
 pub record Listed : Type 0 where
-  -- every SWNo of channels 0 to 17
-  pub all : map shownOf (numbers 0 18) ≡ serviceTable ∷ (map digitalTable (numbers 1 16) ++ (commonTable ∷ []))
+  -- every SWNo of channels 0 to $13
+  pub all : map shownOf (numbers 0 20) ≡ serviceTable ∷ (map digitalTable (numbers 1 16) ++ (commonTable ∷ replicate 16 none ∷ dataTable ∷ []))
   -- and every other
-  pub beyond : (n : ℕ) → 0x120 ≤ n → place n ≡ unlisted
+  pub beyond : (n : ℕ) → 0x140 ≤ n → place n ≡ unlisted

@@ -14,10 +14,13 @@ use Rattle.model.specs.declared.Errors.{Errors}
 use Rattle.model.specs.declared.Kept.{Kept}
 use Rattle.model.specs.declared.Channel.{Channel}
 use Rattle.model.specs.declared.Shared.{Shared}
+use Rattle.model.specs.declared.LevelTable.{LevelTable}
+use Rattle.model.specs.declared.DataChannel.{DataChannel}
 use Rattle.model.specs.State.{withConfig, withFlags, setOutTimer, setFBTimer, setOutPreset, setFBPreset, withCurrents, withErrors, withCounter}
 use Rattle.model.specs.State.{withOperating, withUser, withReals, withMaintenance, withKept, outTimer, fbTimer, outPreset, fbPreset}
 use Rattle.model.specs.State.{outFlag, inFlag, control, fbStatus, internalState, setOutFlag, setInFlag, setControl, setFBStatus, setInternalState}
 use Rattle.model.specs.State.{setOutCurrent, setMinCurrent, setMaxCurrent, freeRunTimer, moduleConfig, wdPreset, writeEnable, saveTicks}
+use Rattle.model.specs.State.{setRealA, setRealB, setTimerA, setTimerB, setLookUp1, setLookUp2, keepRealA, keepRealB}
 use Rattle.model.specs.Channel.{keepCounter, keepOperating, keepUser}
 use Rattle.model.specs.Writes.{setModuleConfig, setWDPreset, setWriteEnable}
 
@@ -101,9 +104,26 @@ pub record ChannelParts (g : Config) (f : Flags) (ot ft op fp : TimerCount) (i :
   pub each-flag : (o i′ c s m : Bool) → let ch = channel g (flags o i′ c s m) ot ft op fp i e n t u r d k in
       (outFlag ch ≡ o) × (inFlag ch ≡ i′) × (control ch ≡ c) × (fbStatus ch ≡ s) × (internalState ch ≡ m)
 
+-- the data channel by its parts
+abbrev pub dataWith : Float → Float → Float → Float → TimerCount → TimerCount → LevelTable → LevelTable → DataChannel
+dataWith ra rb ka kb ta tb l m =
+    record { reals = record { a = ra; b = rb }; kept = record { a = ka; b = kb }; timers = record { a = ta; b = tb }; table1 = l; table2 = m }
+
+pub record DataParts (ra rb ka kb : Float) (ta tb : TimerCount) (l m : LevelTable) : Type 0 where
+  pub reals-a : (x : Float) → setRealA x (dataWith ra rb ka kb ta tb l m) ≡ dataWith x rb ka kb ta tb l m
+  pub reals-b : (x : Float) → setRealB x (dataWith ra rb ka kb ta tb l m) ≡ dataWith ra x ka kb ta tb l m
+  pub timers-a : (x : TimerCount) → setTimerA x (dataWith ra rb ka kb ta tb l m) ≡ dataWith ra rb ka kb x tb l m
+  pub timers-b : (x : TimerCount) → setTimerB x (dataWith ra rb ka kb ta tb l m) ≡ dataWith ra rb ka kb ta x l m
+  pub look-ups-1 : (x : LevelTable) → setLookUp1 x (dataWith ra rb ka kb ta tb l m) ≡ dataWith ra rb ka kb ta tb x m
+  pub look-ups-2 : (x : LevelTable) → setLookUp2 x (dataWith ra rb ka kb ta tb l m) ≡ dataWith ra rb ka kb ta tb l x
+  -- Change 1, 2: what is kept of RealA and of RealB, and nothing else
+  pub a-kept : keepRealA (dataWith ra rb ka kb ta tb l m) ≡ dataWith ra rb ra kb ta tb l m
+  pub b-kept : keepRealB (dataWith ra rb ka kb ta tb l m) ≡ dataWith ra rb ka rb ta tb l m
+
 pub record Parts : Type 0 where
   pub channels : (g : Config) (f : Flags) (ot ft op fp : TimerCount) (i : Currents) (e : Errors) (n : ℤ) (t : OperatingCount) (u r d : List ℕ) (k : Kept) →
       ChannelParts g f ot ft op fp i e n t u r d k
+  pub datas : (ra rb ka kb : Float) (ta tb : TimerCount) (l m : LevelTable) → DataParts ra rb ka kb ta tb l m
   -- of the shared record
   pub module-configs : (r p : TimerCount) (g x : Config) (w : Bool) (n : ℕ) → setModuleConfig x (shared r g p w n) ≡ shared r x p w n
   pub wd-presets : (r p x : TimerCount) (g : Config) (w : Bool) (n : ℕ) → setWDPreset x (shared r g p w n) ≡ shared r g x w n

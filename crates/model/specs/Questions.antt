@@ -1,4 +1,5 @@
--- Document 01, Questions 1 to 15: each question, the first whose answer is no, and the number and values of every answer. Definitions only.
+-- Document 01, Questions 1 to 15, and document 02, Change 1, 14: each question, the first whose answer is no, and the number and values of every answer.
+-- Definitions only.
 use mathlib.Core.Bool.{Bool, true, false, not, cond, _||_}
 use mathlib.Core.List.{List, [], _∷_}
 use Prim.Native.Nat.{ℕ}
@@ -11,10 +12,10 @@ use Rattle.model.specs.declared.Refusal.{Refusal}
 use Rattle.model.specs.declared.Reply.{Reply}
 use Rattle.model.specs.declared.Access.the-variants.{ReadOnly, Writable, Protected}
 use Rattle.model.specs.declared.Refusal.the-variants.{Beyond, Unlisted, NotWritable, WrongLength, BufferTooShort, NotEnabled, NotAllowed}
-use Rattle.model.specs.declared.Refusal.the-variants.{NoChannel, NotFinite, ImageLength, ImageCounts, ImageSum, ImageValues, NoRoom}
+use Rattle.model.specs.declared.Refusal.the-variants.{NoChannel, NotFinite, ImageLength, ImageCounts, ImageSum, ImageValues, NoRoom, NoTable}
 use Rattle.model.specs.declared.Reply.the-variants.{Done, Refused}
 use Rattle.model.specs.Settings.{isDigital}
-use Rattle.model.specs.Registers.{Place, service, digital, common, unlisted, access, size, highestSWNo}
+use Rattle.model.specs.Registers.{Place, service, digital, common, data-channel, unlisted, access, size, highestSWNo}
 use Rattle.model.specs.Writes.{allowed}
 use Rattle.model.specs.Image.{sizeRight, countsRight, sumRight, valuesAllowed, imageSize}
 
@@ -35,6 +36,7 @@ refusalNumber ImageCounts = 11
 refusalNumber ImageSum = 12
 refusalNumber ImageValues = 13
 refusalNumber NoRoom = 14
+refusalNumber NoTable = 15
 
 -- Calls 5: 0 where the call is done
 abbrev pub numberOf : Reply → ℕ
@@ -73,6 +75,7 @@ abbrev pub question2 : Place → Bool
 question2 (service r) = true
 question2 (digital k r) = true
 question2 (common r) = true
+question2 (data-channel r) = true
 question2 unlisted = false
 
 abbrev pub isWritable : Access → Bool
@@ -133,6 +136,16 @@ currentQuestions k x = (question8 k else NoChannel) ∷ (question9 x else NotFin
 
 unfoldable pub currentReply : ℕ → Float → Reply
 currentReply k x = asked (currentQuestions k x) (Done 0)
+
+-- ---- lookups. Change 1, 14: 15 of the table's number, then 7 of X
+abbrev pub question15 : ℕ → Bool
+question15 k = eqb k 1 || eqb k 2
+
+abbrev pub lookUpQuestions : ℕ → Float → List Question
+lookUpQuestions k x = (question15 k else NoTable) ∷ (finite x else NotAllowed) ∷ []
+
+unfoldable pub lookUpReply : ℕ → Float → Reply
+lookUpReply k x = asked (lookUpQuestions k x) (Done 0)
 
 -- ---- power-up, 10 to 13, and storing, 14
 abbrev pub powerUpQuestions : List ℕ → List Question

@@ -1,4 +1,4 @@
--- Document 01, Registers: the bytes that each register gives when it is read, and what reading leaves. Definitions only.
+-- Document 01, Registers, and document 02, Change 1, 2: the bytes that each register gives when it is read, and what reading leaves. Definitions only.
 use mathlib.Core.Bool.{Bool, false}
 use mathlib.Core.List.{List, [], _∷_, _++_, map}
 use Prim.Native.Nat.{ℕ}
@@ -9,21 +9,25 @@ use Rattle.counts.specs.Counts.{timerUnits, operatingUnits}
 use Rattle.numbers.specs.Reals.{realOf, realBytes}
 use Rattle.model.specs.declared.Config.{Config}
 use Rattle.model.specs.declared.Channel.{Channel}
+use Rattle.model.specs.declared.Pair.{Pair}
+use Rattle.model.specs.declared.DataChannel.{DataChannel}
 use Rattle.model.specs.declared.Service.{Service}
 use Rattle.model.specs.declared.Module.{Module}
 use Rattle.model.specs.declared.ServiceRegister.{ServiceRegister}
 use Rattle.model.specs.declared.DigitalRegister.{DigitalRegister}
 use Rattle.model.specs.declared.CommonRegister.{CommonRegister}
+use Rattle.model.specs.declared.DataRegister.{DataRegister}
 use Rattle.model.specs.declared.ServiceRegister.the-variants.{Highest, Reset, FreeRunTimer, WDTimer, ModuleConfig, WDPreset, WriteEnable, CommonError}
 use Rattle.model.specs.declared.DigitalRegister.the-variants.{FlagReg, OutTimer, Counter, OutCurrent, OperatingTime, UserBytes, FBTimer, FBPreset}
 use Rattle.model.specs.declared.DigitalRegister.the-variants.{OutPreset, ChConfig, MinCurrent, MaxCurrent, UserReals, Maintenance, ChError}
 use Rattle.model.specs.declared.CommonRegister.the-variants.{OutFlags, InFlags, IOChError, ChError as CommonChError}
+use Rattle.model.specs.declared.DataRegister.the-variants.{RealA, RealB, TimerA, TimerB, LookUp1, LookUp2}
 use Rattle.model.specs.State.{outFlag, inFlag, control, fbStatus, outTimer, fbTimer, outPreset, fbPreset}
-use Rattle.model.specs.State.{freeRunTimer, moduleConfig, wdPreset, writeEnable, wdTimer, withServiceRecord, channelAt, putChannel}
+use Rattle.model.specs.State.{freeRunTimer, moduleConfig, wdPreset, writeEnable, wdTimer, dataChannel, withServiceRecord, channelAt, putChannel}
 use Rattle.model.specs.Settings.{inA, inB}
 use Rattle.model.specs.Channel.{acknowledged}
 use Rattle.model.specs.Errors.{bitValue, byteOf, wordOf, any, errorByte, hasHis, hasAct, chError, commonErrorBytes, serviceAcknowledged}
-use Rattle.model.specs.Registers.{Place, service, digital, common, unlisted, highestSWNo}
+use Rattle.model.specs.Registers.{Place, service, digital, common, data-channel, unlisted, highestSWNo}
 use Rattle.model.specs.Tick.{levels}
 
 -- Registers 3: a count of 1/256 s as a Real
@@ -75,10 +79,24 @@ commonBytes InFlags cs = channelWord inFlag cs
 commonBytes IOChError cs = channelWord hasHis cs ++ channelWord hasAct cs
 commonBytes CommonChError cs = chError (bitValue (any hasHis cs)) (bitValue (any hasAct cs))
 
+-- Change 1, 2: a table's bytes are X1, Y1, X2, Y2 and so on
+unfoldable pub pairsBytes : List Pair → List ℕ
+pairsBytes [] = []
+pairsBytes (p ∷ ps) = (realBytes (p .x) ++ realBytes (p .y)) ++ pairsBytes ps
+
+unfoldable pub dataBytes : DataRegister → DataChannel → List ℕ
+dataBytes RealA d = realBytes (d .reals .a)
+dataBytes RealB d = realBytes (d .reals .b)
+dataBytes TimerA d = timerBytes (d .timers .a)
+dataBytes TimerB d = timerBytes (d .timers .b)
+dataBytes LookUp1 d = pairsBytes (d .table1 .pairs)
+dataBytes LookUp2 d = pairsBytes (d .table2 .pairs)
+
 unfoldable pub bytesRead : Place → Module → List ℕ
 bytesRead (service r) m = serviceBytes r m
 bytesRead (digital k r) m = digitalBytes r (levels m) (channelAt m k)
 bytesRead (common r) m = commonBytes r (m .channels)
+bytesRead (data-channel r) m = dataBytes r (dataChannel m)
 bytesRead unlisted m = []
 
 -- Registers 7: CommonError acknowledges the service channel's own errors, and ChError those of its channel; no other read changes anything
@@ -113,4 +131,5 @@ unfoldable pub afterRead : Place → Module → Module
 afterRead (service r) m = withServiceRecord (serviceRead r (m .service)) m
 afterRead (digital k r) m = putChannel k (digitalRead r (channelAt m k)) m
 afterRead (common r) m = m
+afterRead (data-channel r) m = m
 afterRead unlisted m = m

@@ -7,15 +7,19 @@ use Prim.Native.Nat.{ℕ, suc}
 use lib.IntN.{pos}
 use lib.ListN.{length, replicate, set}
 use lib.Ieee.{Float, binary32, ofBits}
+use lib.Ieee.Scale.{finite}
 use Rattle.counts.specs.Counts.{timer}
 use Rattle.model.specs.declared.Module.{Module}
 use Rattle.model.specs.State.{config, writeEnable}
 use Rattle.model.specs.Errors.{dataError, generalError}
 use Rattle.model.specs.Registers.{place}
-use Rattle.model.specs.Image.{sizeRight, countsRight, sumRight, valuesAllowed, encode, poweredUp, zeroSetup}
+use Rattle.model.specs.Image.{sizeRight, countsRight, sumRight, valuesAllowed, encode}
+use Rattle.model.specs.Restored.{poweredUp, zeroSetup}
 use Rattle.model.specs.Questions.{question1, question2, question3, question4, question5, question6, question7, question8, question9, question14}
-use Rattle.model.specs.Calls.{Request, read, write, level, current, Sort, aTick, aRead, aWrite, aLocalCall, sortOf, Stepped, step}
+use Rattle.model.specs.Questions.{question15}
+use Rattle.model.specs.Calls.{Request, read, write, level, current, lookUp, Sort, aTick, aRead, aWrite, aLocalCall, sortOf, Stepped, step}
 use Rattle.model.specs.Calls.{cleared, watchdogPreset, powerUp, powerUpAnswer, storeAnswer}
+use Rattle.model.specs.Images.{zeroData}
 
 -- ---- which number is given
 -- a question by its number, and whether its answer is yes
@@ -59,6 +63,8 @@ pub record Decided : Type 0 where
       (step m (write n bs) .answer .number)
   pub levels : (m : Module) (k : ℕ) (b : Bool) → Decides ((8 asks question8 k) ∷ []) (step m (level k b) .answer .number)
   pub currents : (m : Module) (k : ℕ) (x : Float) → Decides ((8 asks question8 k) ∷ (9 asks question9 x) ∷ []) (step m (current k x) .answer .number)
+  -- Change 1, 14
+  pub look-ups : (m : Module) (k : ℕ) (x : Float) → Decides ((15 asks question15 k) ∷ (7 asks finite x) ∷ []) (step m (lookUp k x) .answer .number)
   pub power-ups : (img : List ℕ) →
       Decides ((10 asks sizeRight img) ∷ (11 asks countsRight img) ∷ (12 asks sumRight img) ∷ (13 asks valuesAllowed img) ∷ []) (powerUpAnswer img .number)
   pub stores : (m : Module) (lent : List ℕ) → Decides ((14 asks question14 lent) ∷ []) (storeAnswer m lent .number)
@@ -68,10 +74,13 @@ pub record Decided : Type 0 where
 abbrev pub wireRefused : Module → ℕ → List ℕ → Stepped
 wireRefused m n lent =
     let c = cleared m in
-    record { answer = record { number = n; length = 0; buffer = lent; data-error = dataError c; general-error = generalError c }; box = watchdogPreset c }
+    record {
+      answer = record { number = n; length = 0; buffer = lent; data-error = dataError c; general-error = generalError c; real-bits = 0 };
+      box = watchdogPreset c;
+    }
 
 abbrev pub plainlyRefused : Module → ℕ → Stepped
-plainlyRefused m n = record { answer = record { number = n; length = 0; buffer = []; data-error = false; general-error = false }; box = m }
+plainlyRefused m n = record { answer = record { number = n; length = 0; buffer = []; data-error = false; general-error = false; real-bits = 0 }; box = m }
 
 abbrev pub refusedBy : Sort → Module → ℕ → Stepped
 refusedBy aTick m n = plainlyRefused m n
@@ -85,7 +94,7 @@ pub record Refusals : Type 0 where
   -- a refused power-up gives the box of all-zero settings; a refused storing answers no length and leaves the buffer
   pub start : (img : List ℕ) (n : ℕ) → powerUpAnswer img .number ≡ suc n → powerUp img ≡ poweredUp zeroSetup
   pub store : (m : Module) (lent : List ℕ) (n : ℕ) → storeAnswer m lent .number ≡ suc n →
-      storeAnswer m lent ≡ record { number = suc n; length = 0; buffer = lent; data-error = false; general-error = false }
+      storeAnswer m lent ≡ record { number = suc n; length = 0; buffer = lent; data-error = false; general-error = false; real-bits = 0 }
 
 -- ---- an instance of every number, most of them where a later question is answered no too
 abbrev pub writes : Module → ℕ → List ℕ → ℕ
@@ -100,10 +109,10 @@ enabled m = step m (write 0x0D (1 ∷ [])) .box
 
 -- images: one that is accepted, and one whose ModuleConfig has other Functions
 abbrev pub imageWith : ℕ → List ℕ
-imageWith functions = encode (record { module-config = config 0 functions 0 0; wd-preset = timer (pos 0); entries = zeroSetup .entries })
+imageWith functions = encode (record { module-config = config 0 functions 0 0; wd-preset = timer (pos 0); entries = zeroSetup .entries; data-kept = zeroData })
 
 pub record InOrder : Type 0 where
-  pub number1 : (m : Module) → writes m 0x120 [] ≡ 1
+  pub number1 : (m : Module) → writes m 0x140 [] ≡ 1
   pub number2 : (m : Module) → writes m 0x1E [] ≡ 2
   pub number3 : (m : Module) → writes m 0x1F [] ≡ 3
   pub number4 : writes (poweredUp zeroSetup) 0x19 [] ≡ 4
@@ -113,10 +122,13 @@ pub record InOrder : Type 0 where
   pub number8 : (m : Module) → step m (level 17 true) .answer .number ≡ 8
   pub number8-first : (m : Module) → step m (current 0 (ofBits binary32 0x7F80_0000)) .answer .number ≡ 8
   pub number9 : (m : Module) → step m (current 16 (ofBits binary32 0x7F80_0000)) .answer .number ≡ 9
-  pub number10 : powerUpAnswer (replicate 716 0) .number ≡ 10
+  pub number10 : powerUpAnswer (replicate 885 0) .number ≡ 10
   pub number11 : powerUpAnswer (set (imageWith 0x10) 0 2) .number ≡ 11
   pub number12 : powerUpAnswer (set (imageWith 0x10) 2 0x11) .number ≡ 12
   pub number13 : powerUpAnswer (imageWith 0x11) .number ≡ 13
-  pub number14 : (m : Module) → storeAnswer m (replicate 716 0) .number ≡ 14
+  pub number14 : (m : Module) → storeAnswer m (replicate 885 0) .number ≡ 14
+  pub number15 : (m : Module) → step m (lookUp 3 (ofBits binary32 0x7F80_0000)) .answer .number ≡ 15
+  pub number7-lookup : (m : Module) → step m (lookUp 2 (ofBits binary32 0x7F80_0000)) .answer .number ≡ 7
+  pub number2-first : (m : Module) → writes m 0x12F [] ≡ 2
   pub done : writes (enabled (poweredUp zeroSetup)) 0x19 (0 ∷ 0x50 ∷ 16 ∷ 16 ∷ []) ≡ 0
   pub done-image : powerUpAnswer (imageWith 0x10) .number ≡ 0

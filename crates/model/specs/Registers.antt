@@ -1,4 +1,4 @@
--- Document 01, Registers 1 and 2, with its lists of registers: the table. Definitions only.
+-- Document 01, Registers 1 and 2, with its lists of registers, and those of document 02, Change 1: the table. Definitions only.
 use mathlib.Core.Bool.{cond}
 use mathlib.Core.List.{List, [], _∷_}
 use Prim.Native.Nat.{ℕ, _/_, _%_}
@@ -7,11 +7,13 @@ use Rattle.model.specs.declared.Access.{Access}
 use Rattle.model.specs.declared.ServiceRegister.{ServiceRegister}
 use Rattle.model.specs.declared.DigitalRegister.{DigitalRegister}
 use Rattle.model.specs.declared.CommonRegister.{CommonRegister}
+use Rattle.model.specs.declared.DataRegister.{DataRegister}
 use Rattle.model.specs.declared.Access.the-variants.{ReadOnly, Writable, Protected}
 use Rattle.model.specs.declared.ServiceRegister.the-variants.{Highest, Reset, FreeRunTimer, WDTimer, ModuleConfig, WDPreset, WriteEnable, CommonError}
 use Rattle.model.specs.declared.DigitalRegister.the-variants.{FlagReg, OutTimer, Counter, OutCurrent, OperatingTime, UserBytes, FBTimer, FBPreset}
 use Rattle.model.specs.declared.DigitalRegister.the-variants.{OutPreset, ChConfig, MinCurrent, MaxCurrent, UserReals, Maintenance, ChError}
 use Rattle.model.specs.declared.CommonRegister.the-variants.{OutFlags, InFlags, IOChError, ChError as CommonChError}
+use Rattle.model.specs.declared.DataRegister.the-variants.{RealA, RealB, TimerA, TimerB, LookUp1, LookUp2}
 use Rattle.model.specs.Settings.{isDigital}
 
 -- a row of the table: the register's number in its channel, its access (Registers 2) and its size in bytes
@@ -62,6 +64,15 @@ commonRow InFlags = W 0x1 2
 commonRow IOChError = R 0x2 4
 commonRow CommonChError = R 0xF 4
 
+-- Change 1, 2, at the manual's numbers: a table is ten pairs of Reals
+abbrev pub dataRow : DataRegister → Row
+dataRow RealA = W 0x0 4
+dataRow RealB = W 0x1 4
+dataRow TimerA = W 0xA 4
+dataRow TimerB = W 0xB 4
+dataRow LookUp1 = P 0xC 80
+dataRow LookUp2 = P 0xD 80
+
 abbrev pub serviceRegisters : List ServiceRegister
 serviceRegisters = Highest ∷ Reset ∷ FreeRunTimer ∷ WDTimer ∷ ModuleConfig ∷ WDPreset ∷ WriteEnable ∷ CommonError ∷ []
 
@@ -73,11 +84,15 @@ digitalRegisters =
 abbrev pub commonRegisters : List CommonRegister
 commonRegisters = OutFlags ∷ InFlags ∷ IOChError ∷ CommonChError ∷ []
 
--- what a SWNo names: a register of the service channel, of a digital channel or of the common one, or none that is listed
+abbrev pub dataRegisters : List DataRegister
+dataRegisters = RealA ∷ RealB ∷ TimerA ∷ TimerB ∷ LookUp1 ∷ LookUp2 ∷ []
+
+-- what a SWNo names: a register of the service channel, of a digital channel, of the common or of the data channel, or none that is listed
 pub data Place : Type 0 where
   service : ServiceRegister → Place
   digital : ℕ → DigitalRegister → Place
   common : CommonRegister → Place
+  data-channel : DataRegister → Place
   unlisted : Place
 
 -- the register that has a number, among those of a channel
@@ -92,21 +107,23 @@ channelOf n = n / 0x10
 abbrev pub registerOf : ℕ → ℕ
 registerOf n = n % 0x10
 
--- Service 0 and question 1: the highest SWNo
+-- Service 0 and question 1, by Change 1, 12: the highest SWNo
 abbrev pub highestSWNo : ℕ
-highestSWNo = 0x11F
+highestSWNo = 0x13F
 
 unfoldable pub place : ℕ → Place
 place n =
     cond (eqb (channelOf n) 0) (find service serviceRow (registerOf n) serviceRegisters)
     (cond (eqb (channelOf n) 17) (find common commonRow (registerOf n) commonRegisters)
-    (cond (isDigital (channelOf n)) (find (digital (channelOf n)) digitalRow (registerOf n) digitalRegisters) unlisted))
+    (cond (eqb (channelOf n) 19) (find data-channel dataRow (registerOf n) dataRegisters)
+    (cond (isDigital (channelOf n)) (find (digital (channelOf n)) digitalRow (registerOf n) digitalRegisters) unlisted)))
 
 -- the row of a place. What is not listed has none: R 0 0 stands there, and question 2 refuses it before its row is looked at
 abbrev pub rowOf : Place → Row
 rowOf (service r) = serviceRow r
 rowOf (digital k r) = digitalRow r
 rowOf (common r) = commonRow r
+rowOf (data-channel r) = dataRow r
 rowOf unlisted = R 0 0
 
 abbrev pub access : Place → Access

@@ -10,7 +10,8 @@ use lib.ListN.{length, take}
 use Rattle.model.specs.declared.ServiceBits.{ServiceBits}
 use Rattle.model.specs.declared.Module.{Module}
 use Rattle.model.specs.State.{wdTimer, serviceBits, serviceOf, withServiceRecord}
-use Rattle.model.specs.Image.{setupOf, poweredUp}
+use Rattle.model.specs.Image.{setupOf}
+use Rattle.model.specs.Restored.{poweredUp}
 use Rattle.model.specs.Writes.{setWriteEnable}
 use Rattle.model.specs.Calls.{Stepped, write, step, powerUp, storeAnswer}
 use Rattle.model.specs.Images.{Reached}
@@ -34,8 +35,8 @@ pub record Resets : Type 0 where
   -- of any box
   pub restores : (m : Module) → reset m 0xFF .box ≡ withHis bit6 (poweredUp (setupOf m))
   -- of a reached one it is the power-up of the image that storing gives
-  pub stored : (m : Module) → Reached m → (lent : List ℕ) → 717 ≤ length lent →
-      reset m 0xFF .box ≡ withHis bit6 (powerUp (take 717 (storeAnswer m lent .buffer)))
+  pub stored : (m : Module) → Reached m → (lent : List ℕ) → 886 ≤ length lent →
+      reset m 0xFF .box ≡ withHis bit6 (powerUp (take 886 (storeAnswer m lent .buffer)))
   -- it answers with the new box's bits
   pub answer : (m : Module) → reset m 0xFF .answer .number ≡ 0
   -- every other byte is refused

@@ -11,7 +11,10 @@ use Rattle.model.specs.declared.Channel.{Channel}
 use Rattle.model.specs.declared.Module.{Module}
 use Rattle.model.specs.State.{config, channelAt, putChannel, outTimer, fbTimer, setOutTimer}
 use Rattle.model.specs.Settings.{output}
-use Rattle.model.specs.Image.{Entry, entrySize, entryFrom, poweredUp, realZero}
+use Rattle.model.specs.Image.{Entry, entrySize, entryFrom}
+use Rattle.model.specs.Restored.{poweredUp}
+use Rattle.model.specs.Lookup.{zero as realZero}
+use Rattle.model.specs.Images.{zeroData}
 use Rattle.model.specs.Calls.{Request, read, write, tick, step, run}
 
 -- settings: the watchdog off; channel 1 with these Functions and this OutPreset, the other channels all zero
@@ -35,7 +38,13 @@ firstEntry functions preset =
 
 abbrev pub boxWith : ℕ → ℕ → Module
 boxWith functions preset =
-    poweredUp (record { module-config = config 0 0x10 0 0; wd-preset = timer (pos 0); entries = firstEntry functions preset ∷ replicate 15 noEntry })
+    poweredUp
+    (record {
+      module-config = config 0 0x10 0 0;
+      wd-preset = timer (pos 0);
+      entries = firstEntry functions preset ∷ replicate 15 noEntry;
+      data-kept = zeroData;
+    })
 
 -- a write of these bytes to OutTimer of channel 1: its number, and the count that it leaves
 abbrev pub writes : ℕ → ℕ → ℕ → ℕ → ℕ

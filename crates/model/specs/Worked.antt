@@ -1,10 +1,12 @@
--- Worked boxes: known settings, a list of calls, and every answer written out, with its bytes. The answers were worked out from document 01 and
--- played through the independent model of reference/box, not taken from the definitions. Here is how they are written; the facts are in Worked/.
+-- Worked boxes: known settings, a list of calls, and every answer written out, with its bytes. The answers were worked out from documents 01 and 02 and, where
+-- calls bring the box, played through the independent model of reference/box, not taken from the definitions. Here is how they are written; the facts are in
+-- Worked/.
 pub mod Wire
 pub mod Effects
 pub mod Ticks
 pub mod Saves
 pub mod Image
+pub mod Levels
 use mathlib.Core.Path.{_≡_}
 use mathlib.Core.Bool.{Bool, true, false}
 use mathlib.Core.List.{List, [], _∷_, _++_, map}
@@ -15,8 +17,10 @@ use lib.Ieee.{binary32, ofBits}
 use Rattle.counts.specs.Counts.{timer}
 use Rattle.model.specs.declared.Config.{Config}
 use Rattle.model.specs.declared.Module.{Module}
-use Rattle.model.specs.Image.{Entry, poweredUp}
+use Rattle.model.specs.Image.{Entry}
+use Rattle.model.specs.Restored.{poweredUp}
 use Rattle.model.specs.Calls.{Request, read, write, current, tick, Answer, step}
+use Rattle.model.specs.Images.{zeroData}
 
 -- ---- bytes: of numbers of one byte, two and four, the high byte first
 abbrev pub one : ℕ → List ℕ
@@ -52,7 +56,8 @@ abbrev pub present : Bits
 present = record { data-error = true; general-error = true }
 
 abbrev pub answering : ℕ → ℕ → List ℕ → Bits → Answer
-answering n len buf b = record { number = n; length = len; buffer = buf; data-error = b .data-error; general-error = b .general-error }
+answering n len buf b =
+    record { number = n; length = len; buffer = buf; data-error = b .data-error; general-error = b .general-error; real-bits = 0 }
 
 -- one list after another
 infixr 20 _then_
@@ -115,7 +120,7 @@ abbrev pub configOf : ℕ → Config
 configOf n = record { enablebit = n / 16777216; functions = n / 65536 % 256; «ref_a» = n / 256 % 256; «ref_b» = n % 256 }
 
 abbrev pub boxOf : ℕ → ℕ → List Entry → Module
-boxOf g preset es = poweredUp (record { module-config = configOf g; wd-preset = timer (pos preset); entries = es })
+boxOf g preset es = poweredUp (record { module-config = configOf g; wd-preset = timer (pos preset); entries = es; data-kept = zeroData })
 
 -- an entry: ChConfig's four bytes, the counts of FBPreset and OutPreset, MinCurrent and MaxCurrent; the other registers 0
 abbrev pub limited : ℕ → ℕ → ℕ → ℕ → ℕ → Entry

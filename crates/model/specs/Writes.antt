@@ -1,4 +1,4 @@
--- Document 01, Registers and question 7: which bytes each register allows, and what an accepted write does. Definitions only.
+-- Document 01, Registers and question 7, and document 02, Change 1, 2: which bytes each register allows, and what an accepted write does. Definitions only.
 use mathlib.Core.Bool.{Bool, true, cond, _&&_}
 use mathlib.Core.List.{List, [], _∷_, map}
 use Prim.Native.Nat.{ℕ, suc}
@@ -15,23 +15,28 @@ use Rattle.model.specs.declared.Config.{Config}
 use Rattle.model.specs.declared.Channel.{Channel}
 use Rattle.model.specs.declared.Shared.{Shared}
 use Rattle.model.specs.declared.Service.{Service}
+use Rattle.model.specs.declared.DataChannel.{DataChannel}
 use Rattle.model.specs.declared.Module.{Module}
 use Rattle.model.specs.declared.ServiceRegister.{ServiceRegister}
 use Rattle.model.specs.declared.DigitalRegister.{DigitalRegister}
 use Rattle.model.specs.declared.CommonRegister.{CommonRegister}
+use Rattle.model.specs.declared.DataRegister.{DataRegister}
 use Rattle.model.specs.declared.ServiceRegister.the-variants.{Highest, Reset, FreeRunTimer, WDTimer, ModuleConfig, WDPreset, WriteEnable, CommonError}
 use Rattle.model.specs.declared.DigitalRegister.the-variants.{FlagReg, OutTimer, Counter, OutCurrent, OperatingTime, UserBytes, FBTimer, FBPreset}
 use Rattle.model.specs.declared.DigitalRegister.the-variants.{OutPreset, ChConfig, MinCurrent, MaxCurrent, UserReals, Maintenance, ChError}
 use Rattle.model.specs.declared.CommonRegister.the-variants.{OutFlags, InFlags, IOChError, ChError as CommonChError}
+use Rattle.model.specs.declared.DataRegister.the-variants.{RealA, RealB, TimerA, TimerB, LookUp1, LookUp2}
 use Rattle.model.specs.State.{withCounter, withOperating, withUser, withReals, withMaintenance, setOutTimer, setFBTimer, setOutPreset}
 use Rattle.model.specs.State.{setFBPreset, setMinCurrent, setMaxCurrent, freeRunTimer, moduleConfig, wdPreset, writeEnable, saveTicks, sharedOf}
-use Rattle.model.specs.State.{wdTimer, serviceOf, withChannels, channelAt, putChannel}
+use Rattle.model.specs.State.{wdTimer, serviceOf, moduleOf, withChannels, channelAt, putChannel}
+use Rattle.model.specs.State.{dataChannel, withData, setRealA, setRealB, setTimerA, setTimerB, setLookUp1, setLookUp2, keepRealA, keepRealB}
 use Rattle.model.specs.Settings.{bit}
 use Rattle.model.specs.Channel.{acknowledged, simulate, takeCurrent, flagRegWritten, outFlagsWritten, chConfigWritten}
 use Rattle.model.specs.Channel.{keepCounter, keepOperating, keepUser}
 use Rattle.model.specs.Errors.{serviceAcknowledged}
-use Rattle.model.specs.Registers.{Place, service, digital, common, unlisted}
-use Rattle.model.specs.Image.{configFrom, configAllowed, moduleConfigAllowed, entryOf, restored, restoredShared, noServiceBits, hisAfterReset}
+use Rattle.model.specs.Registers.{Place, service, digital, common, data-channel, unlisted}
+use Rattle.model.specs.Image.{configFrom, configAllowed, moduleConfigAllowed, entryOf, realAllowed, tableAllowed, tableFrom, dataOf}
+use Rattle.model.specs.Restored.{restored, restoredShared, restoredData, noServiceBits, hisAfterReset}
 
 -- ---- question 7
 -- Service F: every byte is 0
@@ -66,10 +71,20 @@ digitalAllowed UserReals bs = true
 digitalAllowed Maintenance bs = true
 digitalAllowed ChError bs = true
 
+-- Change 1, 2: every Real finite, each of the twenty too; the timers as OutTimer
+abbrev pub dataAllowed : DataRegister → List ℕ → Bool
+dataAllowed RealA bs = realAllowed bs
+dataAllowed RealB bs = realAllowed bs
+dataAllowed TimerA bs = timerAllowed (realFrom bs)
+dataAllowed TimerB bs = timerAllowed (realFrom bs)
+dataAllowed LookUp1 bs = tableAllowed bs
+dataAllowed LookUp2 bs = tableAllowed bs
+
 abbrev pub allowed : Place → List ℕ → Bool
 allowed (service r) bs = serviceAllowed r bs
 allowed (digital k r) bs = digitalAllowed r bs
 allowed (common r) bs = true
+allowed (data-channel r) bs = dataAllowed r bs
 allowed unlisted bs = true
 
 -- ---- Time and amperes 2: the counts that allowed Reals give
@@ -79,7 +94,7 @@ timerFrom bs = timer (countOf timerUnits (realFrom bs))
 abbrev pub operatingFrom : List ℕ → OperatingCount
 operatingFrom bs = record { 0 = unitsOf operatingUnits (realFrom bs) }
 
--- ---- a service register, in three parts: the shared record, the service channel's own errors, and each channel
+-- ---- a service register, in four parts: the shared record, the service channel's own errors, each channel, and the data channel
 abbrev pub setModuleConfig : Config → Shared → Shared
 setModuleConfig g s = sharedOf (freeRunTimer s) g (wdPreset s) (writeEnable s) (saveTicks s)
 
@@ -121,13 +136,24 @@ everyWritten WDPreset ch = ch
 everyWritten WriteEnable ch = ch
 everyWritten CommonError ch = acknowledged ch
 
+-- a reset restores what the data channel keeps
+unfoldable pub dataReset : ServiceRegister → DataChannel → DataChannel
+dataReset Highest d = d
+dataReset Reset d = restoredData (dataOf d)
+dataReset FreeRunTimer d = d
+dataReset WDTimer d = d
+dataReset ModuleConfig d = d
+dataReset WDPreset d = d
+dataReset WriteEnable d = d
+dataReset CommonError d = d
+
 abbrev pub serviceWritten : ServiceRegister → List ℕ → Module → Module
 serviceWritten r bs m =
-    record { shared = sharedWritten r bs (m .shared); service = errorsWritten r (m .service); channels = map (everyWritten r) (m .channels) }
+    moduleOf (sharedWritten r bs (m .shared)) (errorsWritten r (m .service)) (map (everyWritten r) (m .channels)) (dataReset r (dataChannel m))
 
 -- ---- a digital register. A channel 17: only registers 2, 4 and 5 have working values of their own, kept while WriteEnable is TRUE
-abbrev pub keepIf : Bool → (Channel → Channel) → Channel → Channel
-keepIf enabled keep ch = cond enabled (keep ch) ch
+abbrev pub keepIf : {A : Type 0} → Bool → (A → A) → A → A
+keepIf enabled keep x = cond enabled (keep x) x
 
 unfoldable pub digitalWritten : DigitalRegister → Shared → List ℕ → Channel → Channel
 digitalWritten FlagReg s bs ch = flagRegWritten (getD bs 0 0) ch
@@ -161,8 +187,18 @@ abbrev pub each : (ℕ → Channel → Channel) → ℕ → List Channel → Lis
 each f i [] = []
 each f i (ch ∷ cs) = f i ch ∷ each f (suc i) cs
 
+-- ---- a data register. Change 1, 2: RealA and RealB are kept while WriteEnable is TRUE
+unfoldable pub dataWritten : DataRegister → Shared → List ℕ → DataChannel → DataChannel
+dataWritten RealA s bs d = keepIf (writeEnable s) keepRealA (setRealA (realFrom bs) d)
+dataWritten RealB s bs d = keepIf (writeEnable s) keepRealB (setRealB (realFrom bs) d)
+dataWritten TimerA s bs d = setTimerA (timerFrom bs) d
+dataWritten TimerB s bs d = setTimerB (timerFrom bs) d
+dataWritten LookUp1 s bs d = setLookUp1 (tableFrom bs) d
+dataWritten LookUp2 s bs d = setLookUp2 (tableFrom bs) d
+
 unfoldable pub written : Place → List ℕ → Module → Module
 written (service r) bs m = serviceWritten r bs m
 written (digital k r) bs m = putChannel k (digitalWritten r (m .shared) bs (channelAt m k)) m
 written (common r) bs m = withChannels (each (commonWritten r bs) 0 (m .channels)) m
+written (data-channel r) bs m = withData (dataWritten r (m .shared) bs (dataChannel m)) m
 written unlisted bs m = m

@@ -3,9 +3,9 @@ use mathlib.Core.Path.{_≡_}
 use mathlib.Core.Bool.{Bool, false, _&&_}
 use mathlib.Core.List.{List, []}
 use Prim.Native.Nat.{ℕ}
-use lib.ListN.{take}
+use lib.ListN.{length, take}
 use Rattle.model.specs.declared.Call.{Call}
-use Rattle.model.specs.declared.Call.the-variants.{Read, Write, Level, Current, Tick}
+use Rattle.model.specs.declared.Call.the-variants.{Read, Write, Level, Current, LookUp, Tick}
 use Rattle.model.specs.declared.Module.{Module}
 use Rattle.model.specs.declared.Reply.{Reply}
 use Rattle.model.specs.declared.Reply.the-variants.{Done}
@@ -14,26 +14,35 @@ use Rattle.model.specs.declared.Shared.{Shared}
 use Rattle.model.specs.State.{channelAt}
 use Rattle.model.specs.Settings.{isDigital, output}
 use Rattle.model.specs.Questions.{numberOf}
-use Rattle.model.specs.Calls.{Request, read, write, level, current, tick, Stepped, answerOf, step, powerUp, powerUpAnswer, storeAnswer}
+use Rattle.model.specs.Calls.{Request, read, write, level, current, lookUp, tick, Stepped, answerOf, step, powerUp, powerUpAnswer, storeAnswer}
 use Rattle.model.specs.Image.{setupOf, encode, imageSize}
 use Rattle.model.specs.Images.{Reached, PowersUpTo}
 use Rattle.model.specs.TwoLists.{LearnsNothing}
 use Rattle.pd3120.specs.declared.Answered.{Answered}
 use Rattle.pd3120.specs.declared.Sampled.{Sampled}
 use Rattle.pd3120.specs.declared.Started.{Started}
+use Rattle.pd3120.specs.declared.lookups.LookedUp.{LookedUp}
 
 -- ---- the step of `step` that an answer says: its numbers, the lent buffer afterwards, and the box
 -- of a wire call, and of any call by `call`
 abbrev pub stepOf : Answered → List ℕ → Stepped
-stepOf r buf = record { answer = answerOf (r .reply) buf (r .«data_error») (r .«general_error»); box = r .after }
+stepOf r buf = record { answer = answerOf (r .reply) buf (r .«data_error») (r .«general_error») (r .«real_bits»); box = r .after }
 
 -- of a sample
 abbrev pub sampleOf : Sampled → Stepped
-sampleOf r = record { answer = answerOf (r .reply) [] false false; box = r .after }
+sampleOf r = record { answer = answerOf (r .reply) [] false false 0; box = r .after }
+
+-- a sample's as an answer of any call: no bits, and no Real
+abbrev pub plainOf : Sampled → Answered
+plainOf s = record { after = s .after; reply = s .reply; «data_error» = false; «general_error» = false; «real_bits» = 0 }
+
+-- of a lookup in the box m
+abbrev pub lookUpOf : LookedUp → Module → Stepped
+lookUpOf r m = record { answer = answerOf (r .reply) [] false false (r .bits); box = m }
 
 -- of a tick, which always answers 0
 abbrev pub tickOf : Module → Stepped
-tickOf after = record { answer = answerOf (Done 0) [] false false; box = after }
+tickOf after = record { answer = answerOf (Done 0) [] false false 0; box = after }
 
 -- ---- the clearing and the preset of a wire call
 -- r is the service record that f leaves of any box with the record v, and, where f looks at it, the shared record s
@@ -54,6 +63,7 @@ requestOf (Read n) written lent = read n lent
 requestOf (Write n) written lent = write n written
 requestOf (Level k b) written lent = level k b
 requestOf (Current k x) written lent = current k x
+requestOf (LookUp k x) written lent = lookUp k x
 requestOf Tick written lent = tick
 
 -- the buffer that its answer has: a read's is the lent one afterwards, any other call has none
@@ -62,6 +72,7 @@ answerBuffer (Read n) lent = lent
 answerBuffer (Write n) lent = []
 answerBuffer (Level k b) lent = []
 answerBuffer (Current k x) lent = []
+answerBuffer (LookUp k x) lent = []
 answerBuffer Tick lent = []
 
 -- and the lent buffer, which a read alone changes
@@ -70,16 +81,19 @@ lentAfter (Read n) m lent = step m (read n lent) .answer .buffer
 lentAfter (Write n) m lent = lent
 lentAfter (Level k b) m lent = lent
 lentAfter (Current k x) m lent = lent
+lentAfter (LookUp k x) m lent = lent
 lentAfter Tick m lent = lent
 
--- ---- power-up: its answer and the box; and of an accepted image, demand 3 for that very box, and that it is stored again as the same bytes
+-- ---- power-up: its answer and the box; and of an accepted image, demand 3 for that very box, that it is stored again as the same bytes where it has the
+-- length that is stored, and that what is stored of it powers up to the same box, whatever its length
 pub record PoweredUp (img : List ℕ) (r : Started) : Type 0 where
-  pub answer-is : answerOf (r .reply) [] false false ≡ powerUpAnswer img
+  pub answer-is : answerOf (r .reply) [] false false 0 ≡ powerUpAnswer img
   pub box-is : r .after ≡ powerUp img
   pub learns-nothing : numberOf (r .reply) ≡ 0 → LearnsNothing (r .after)
-  pub stored-again : numberOf (r .reply) ≡ 0 → encode (setupOf (r .after)) ≡ img
+  pub stored-again : numberOf (r .reply) ≡ 0 → length img ≡ imageSize → encode (setupOf (r .after)) ≡ img
+  pub renewed : numberOf (r .reply) ≡ 0 → powerUp (encode (setupOf (r .after))) ≡ r .after
 
 -- ---- storing: its answer with the buffer afterwards; and of a reached box, that what was stored powers up to the kept values
 pub record StoredBy (m : Module) (lent : List ℕ) (r : Reply) (lent′ : List ℕ) : Type 0 where
-  pub answer-is : answerOf r lent′ false false ≡ storeAnswer m lent
+  pub answer-is : answerOf r lent′ false false 0 ≡ storeAnswer m lent
   pub powers-up : Reached m → numberOf r ≡ 0 → PowersUpTo m (take imageSize lent′)

@@ -1,23 +1,25 @@
 // The PD 3120 channel box: every call on it. A box goes in by value and comes back by value; the
 // bytes of a wire call stand in slices beside it. No function asks anything of its caller.
 ghost use mathlib.Core.Path.{_≡_};
-ghost use mathlib.Core.Bool.{false};
 ghost use mathlib.Core.List.{[]};
 ghost use Rattle.model.specs.Errors.{dataError, generalError};
 ghost use Rattle.model.specs.Registers.{place};
 ghost use Rattle.model.specs.Questions.{readReply};
-ghost use Rattle.model.specs.Calls.{read, write, level, current, tick, step, cleared, watchdogPreset};
-ghost use Rattle.pd3120.specs.Answers.{stepOf, sampleOf, tickOf, outputAt, requestOf, answerBuffer, lentAfter, RecordBy, SharedBy, PoweredUp};
-ghost use Rattle.pd3120.specs.Answers.{StoredBy};
+ghost use Rattle.model.specs.Calls.{read, write, level, current, lookUp, tick, step, cleared, watchdogPreset};
+ghost use Rattle.pd3120.specs.Answers.{stepOf, sampleOf, lookUpOf, tickOf, outputAt, requestOf, answerBuffer, lentAfter, RecordBy, SharedBy, PoweredUp};
+ghost use Rattle.pd3120.specs.Answers.{StoredBy, plainOf};
 ghost use Rattle.pd3120.specs.Parts.{ReadBy, WriteBy};
 
+pub mod lookups;
 pub mod replies;
 pub mod samples;
 
 use errors::words;
 use errors::words::Words;
+use lookups::LookedUp;
 use model::Call;
 use model::Channel;
+use model::DataChannel;
 use model::Module;
 use model::Reply;
 use model::Service;
@@ -30,12 +32,13 @@ pub struct Started {
     pub reply: Reply,
 }
 
-// What a wire call answers, and the box that it leaves.
+// What a call answers, and the box that it leaves. real_bits are a lookup's, and 0 of any other call.
 pub struct Answered {
     pub after: Module,
     pub reply: Reply,
     pub data_error: bool,
     pub general_error: bool,
+    pub real_bits: u32,
 }
 
 // What a read answers, and the two parts of the box that it may change: the service record and the
@@ -73,7 +76,7 @@ pub fn power_up(img: &[u8]) -> Started
     }
 }
 
-// The kept values, as the first 717 bytes of the buffer.
+// The kept values, as the first 886 bytes of the buffer.
 pub fn store(m: Module, buf: &mut [u8]) -> Reply
     ensures { λ r. ⌜ StoredBy m (now (buf .entry)) r (now (buf .exit)) ⌝ }
 {
@@ -112,22 +115,23 @@ pub fn error_bits(m: Module) -> WireBits
     }
 }
 
-// For a caller that holds the box in its own memory and puts the parts back itself: s, v, ch and w are
-// the box's shared and service records, the SWNo's channel, and the words of all channels. The two
-// bits are those before the acknowledgement.
+// For a caller that holds the box in its own memory and puts the parts back itself: s, v, ch, d and w
+// are the box's shared and service records, the SWNo's channel, the data channel, and the words of all
+// channels. The two bits are those before the acknowledgement.
 pub fn read_changes(
     s: Shared,
     v: Service,
     ch: Channel,
+    d: DataChannel,
     w: Words,
     swno: u16,
     buf: &mut [u8],
 ) -> Changed
-    ensures step { λ r. ⌜ ReadBy s v ch w swno (now (buf .entry)) r (now (buf .exit)) ⌝ }
+    ensures step { λ r. ⌜ ReadBy s v ch d w swno (now (buf .entry)) r (now (buf .exit)) ⌝ }
     ensures reply { λ r. ⌜ r .reply ≡ readReply swno (place swno) (now (buf .entry)) ⌝ }
 {
     let ready = clear(v);
-    let done = reads::read(s, ready, ch, w, swno, buf);
+    let done = reads::read(s, ready, ch, d, w, swno, buf);
     let left = done.service;
     let channel = done.channel;
     let reply = done.reply;
@@ -147,8 +151,17 @@ pub fn read(m: Module, swno: u16, buf: &mut [u8]) -> Answered
     let shared = m.shared;
     let service = m.service;
     let channels = m.channels;
+    let data = m.data_channel;
     let ch = channels[at];
-    let done = read_changes(shared, service, ch, words::of_channels(channels), swno, buf);
+    let done = read_changes(
+        shared,
+        service,
+        ch,
+        data,
+        words::of_channels(channels),
+        swno,
+        buf,
+    );
     let left = done.service;
     let channel = done.channel;
     let reply = done.reply;
@@ -160,11 +173,12 @@ pub fn read(m: Module, swno: u16, buf: &mut [u8]) -> Answered
         reply: reply,
         data_error: done.data_error,
         general_error: done.general_error,
+        real_bits: 0,
     }
 }
 
 // For a caller that holds the box in its own memory: the records and the SWNo's channel that it puts
-// back, and what `writes::each` is then to do to the first channels.
+// back, and what `writes::data_after` and `writes::each` are then to do.
 pub fn begin_write(s: Shared, v: Service, ch: Channel, swno: u16, bytes: &[u8]) -> Begun
     ensures { λ r. ⌜ WriteBy s v ch swno (now (bytes .entry)) r ⌝ }
 {
@@ -197,6 +211,7 @@ pub fn write(m: Module, swno: u16, bytes: &[u8]) -> Answered
         reply: reply,
         data_error: bits.data_error,
         general_error: bits.general_error,
+        real_bits: 0,
     }
 }
 
@@ -234,6 +249,14 @@ pub fn current(m: Module, channel: u8, amperes: f32) -> Sampled
     }
 }
 
+// The box stays as it is.
+pub fn look_up(m: Module, table: u8, x: f32) -> LookedUp
+    ensures { λ r. ⌜ lookUpOf r m ≡ step m (lookUp table x) ⌝ }
+{
+    let data = m.data_channel;
+    lookups::look_up(data, table, x)
+}
+
 pub fn tick(m: Module) -> Module
     ensures { λ r. ⌜ tickOf r ≡ step m tick ⌝ }
 {
@@ -257,7 +280,7 @@ pub fn output(m: Module, channel: u8) -> bool
 
 // A sample and a tick answer no bits.
 fn plain(s: Sampled) -> Answered
-    ensures { λ r. ⌜ r ≡ record { after = s .after; reply = s .reply; «data_error» = false; «general_error» = false } ⌝ }
+    ensures { λ r. ⌜ r ≡ plainOf s ⌝ }
 {
     let after = s.after;
     let reply = s.reply;
@@ -266,10 +289,26 @@ fn plain(s: Sampled) -> Answered
         reply: reply,
         data_error: false,
         general_error: false,
+        real_bits: 0,
     }
 }
 
-// Any of the five calls: a write takes its bytes from written, a read lends lent.
+// A lookup answers its Real besides.
+fn looked_up(m: Module, table: u8, x: f32) -> Answered
+    ensures { λ r. ⌜ stepOf r [] ≡ step m (lookUp table x) ⌝ }
+{
+    let found = look_up(m, table, x);
+    let reply = found.reply;
+    Answered {
+        after: m,
+        reply: reply,
+        data_error: false,
+        general_error: false,
+        real_bits: found.bits,
+    }
+}
+
+// Any of the six calls: a write takes its bytes from written, a read lends lent.
 pub fn call(m: Module, c: Call, written: &[u8], lent: &mut [u8]) -> Answered
     ensures answer { λ r. ⌜ stepOf r (answerBuffer c (now (lent .exit))) ≡ step m (requestOf c (now (written .entry)) (now (lent .entry))) ⌝ }
     ensures buffer { λ r. ⌜ now (lent .exit) ≡ lentAfter c m (now (lent .entry)) ⌝ }
@@ -279,6 +318,7 @@ pub fn call(m: Module, c: Call, written: &[u8], lent: &mut [u8]) -> Answered
         Call::Write(swno) => write(m, swno, written),
         Call::Level(channel, on) => plain(level(m, channel, on)),
         Call::Current(channel, amperes) => plain(current(m, channel, amperes)),
+        Call::LookUp(table, x) => looked_up(m, table, x),
         Call::Tick => plain(Sampled {
             after: tick(m),
             reply: Reply::Done(0),

@@ -22,6 +22,7 @@ fn refusal_number(r: Refusal) -> u8
         Refusal::ImageSum => 12,
         Refusal::ImageValues => 13,
         Refusal::NoRoom => 14,
+        Refusal::NoTable => 15,
     }
 }
 

@@ -1,9 +1,9 @@
--- A code's four parts are found again: by the two bits, then arithmetic. Assumes nothing.
+-- A code's parts are found again: by the two bits, then arithmetic. Assumes nothing.
 use mathlib.Core.Path.{_≡_}
 use mathlib.Core.Bool.{Bool, true, false, cond}
 use Prim.Native.Nat.{ℕ, _/_, _%_, _<_}
 use native.Mathlib.Omega.{arith}
-use Rattle.pd3120_c.specs.Codes.{packed, Unpacks}
+use Rattle.pd3120_c.specs.Codes.{packed, packedLevel, Unpacks}
 
 number : (n s : ℕ) (d g : Bool) → n < 256 → packed n s d g % 256 ≡ n
 number n s true true h = omega (arith, h)
@@ -29,5 +29,19 @@ general-error n s true false h k = omega (arith, h, k)
 general-error n s false true h k = omega (arith, h, k)
 general-error n s false false h k = omega (arith, h, k)
 
+level-number : (n b : ℕ) → b < 4294967296 → packedLevel n b / 4294967296 ≡ n
+level-number n b h = omega (arith, h)
+
+level-bits : (n b : ℕ) → b < 4294967296 → packedLevel n b % 4294967296 ≡ b
+level-bits n b h = omega (arith, h)
+
 pub unpacks : Unpacks
-unpacks = record { number = number; size = size; data-error = data-error; general-error = general-error }
+unpacks =
+    record {
+      number = number;
+      size = size;
+      data-error = data-error;
+      general-error = general-error;
+      level-number = level-number;
+      level-bits = level-bits;
+    }

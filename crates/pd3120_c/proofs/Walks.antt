@@ -1,12 +1,14 @@
 pub mod Box
 pub mod Element
+pub mod Grouped
+pub mod LookUp
 pub mod Output
 pub mod Parts
 pub mod Plain
 pub mod PowerUp
 pub mod Read
-pub mod Grouped
 pub mod Sample
+pub mod Slot
 pub mod Store
 pub mod Tick
 pub mod TickLoop
@@ -15,3 +17,4 @@ pub mod Turns
 pub mod Types
 pub mod Write
 pub mod WriteLoop
+pub mod WriteParts

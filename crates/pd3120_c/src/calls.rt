@@ -5,7 +5,8 @@ ghost use Rattle.model.specs.Errors.{dataError, generalError};
 ghost use Rattle.model.specs.Calls.{level, current};
 ghost use Rattle.errors.specs.Words.{wordsOf};
 ghost use Rattle.registers.specs.Places.{slotOf};
-ghost use Rattle.pd3120_c.specs.Codes.{packed, SampleLeft, ReadLeft, WriteLeft, eachLeft, PoweredUp, Stored};
+ghost use Rattle.writes.specs.Begun.{dataBy};
+ghost use Rattle.pd3120_c.specs.Codes.{packed, SampleLeft, ReadLeft, WriteLeft, eachLeft, LookedUpLeft, PoweredUp, Stored};
 use crate::ChannelDone;
 use crate::Done;
 use crate::ReadDone;
@@ -14,9 +15,11 @@ use crate::codes;
 use errors::words;
 use errors::words::Words;
 use model::Channel;
+use model::DataChannel;
 use model::Module;
 use model::Service;
 use model::Shared;
+use pd3120::lookups;
 use pd3120::replies;
 use pd3120::samples;
 
@@ -47,10 +50,18 @@ pub fn words_of(m: Module) -> Words
     words::of_channels(channels)
 }
 
-pub fn read(s: Shared, v: Service, ch: Channel, w: Words, swno: u16, buf: &mut [u8]) -> ReadDone
-    ensures { λ r. ⌜ ReadLeft s v ch w swno (now (buf .entry)) r (now (buf .exit)) ⌝ }
+pub fn read(
+    s: Shared,
+    v: Service,
+    ch: Channel,
+    d: DataChannel,
+    w: Words,
+    swno: u16,
+    buf: &mut [u8],
+) -> ReadDone
+    ensures { λ r. ⌜ ReadLeft s v ch d w swno (now (buf .entry)) r (now (buf .exit)) ⌝ }
 {
-    let done = pd3120::read_changes(s, v, ch, w, swno, buf);
+    let done = pd3120::read_changes(s, v, ch, d, w, swno, buf);
     let service = done.service;
     let channel = done.channel;
     let reply = done.reply;
@@ -76,9 +87,17 @@ pub fn begin_write(s: Shared, v: Service, ch: Channel, swno: u16, bytes: &[u8]) 
         channel: channel,
         count: begun.count,
         number: replies::number(reply),
+        of_data: begun.of_data,
         place: place,
         word: begun.word,
     }
+}
+
+// s is the shared record before the write.
+pub fn write_data(s: Shared, d: DataChannel, swno: u16, bytes: &[u8]) -> DataChannel
+    ensures { λ r. ⌜ r ≡ dataBy s swno (now (bytes .entry)) d ⌝ }
+{
+    writes::data_after(s, d, swno, bytes)
 }
 
 pub fn write_each(b: WriteBegun, k: usize, ch: Channel) -> Channel
@@ -119,4 +138,12 @@ pub fn current(s: Shared, ch: Channel, channel: u8, amperes: f32) -> ChannelDone
         after: after,
         code: codes::pack(reply, false, false),
     }
+}
+
+pub fn look_up(d: DataChannel, table: u8, x: f32) -> u64
+    ensures { λ r. ⌜ LookedUpLeft d table x r ⌝ }
+{
+    let found = lookups::look_up(d, table, x);
+    let reply = found.reply;
+    codes::look_up_code(reply, found.bits)
 }

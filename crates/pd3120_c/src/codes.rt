@@ -4,8 +4,8 @@ ghost use mathlib.Core.Path.{_≡_};
 ghost use mathlib.Core.Bool.{cond};
 ghost use Prim.Native.Nat.{_≤_};
 ghost use Rattle.model.specs.Image.{imageSize};
-ghost use Rattle.model.specs.Questions.{lengthOf};
-ghost use Rattle.pd3120_c.specs.Codes.{packed, replyCode};
+ghost use Rattle.model.specs.Questions.{numberOf, lengthOf};
+ghost use Rattle.pd3120_c.specs.Codes.{packed, packedLevel, replyCode};
 use model::Reply;
 use pd3120::replies;
 
@@ -32,4 +32,12 @@ pub(crate) fn pack(reply: Reply, data_error: bool, general_error: bool) -> u32
     let number = replies::number(reply);
     let length = replies::length(reply);
     code(number, length, data_error, general_error)
+}
+
+// A lookup's: bits 0 to 31 those of its Real, bits 32 to 39 the number.
+pub(crate) fn look_up_code(reply: Reply, bits: u32) -> u64
+    ensures { λ r. ⌜ r ≡ packedLevel (numberOf reply) bits ⌝ }
+{
+    let number = replies::number(reply);
+    (bits as u64) + (number as u64) * 4294967296
 }

@@ -2,9 +2,9 @@
 // wire call's bytes stand in the caller's buffer, and its answer is one number (specs/Codes.antt).
 // No function asks anything of its caller beyond what a reference itself carries.
 ghost use mathlib.Core.Path.{_≡_};
-ghost use Rattle.model.specs.Calls.{read, write, level, current, step};
+ghost use Rattle.model.specs.Calls.{read, write, level, current, lookUp, step};
 ghost use Rattle.pd3120.specs.Answers.{outputAt};
-ghost use Rattle.pd3120_c.specs.Codes.{Left, LeftLent, Ticked, PoweredUp, Stored};
+ghost use Rattle.pd3120_c.specs.Codes.{Left, LeftLent, Ticked, PoweredUp, Stored, lookUpCode};
 
 mod calls;
 mod codes;
@@ -36,13 +36,14 @@ pub struct ReadDone {
 }
 
 // The parts of the module that a write changes first, how many channels it then comes to, the number
-// of its answer, and what it does to each of these channels.
+// of its answer, whether it comes to the data channel, and what it does to each of these channels.
 pub struct WriteBegun {
     pub shared: Shared,
     pub service: Service,
     pub channel: Channel,
     pub count: usize,
     pub number: u8,
+    pub of_data: bool,
     pub place: Place,
     pub word: u16,
 }
@@ -57,7 +58,7 @@ pub extern "C" fn pd3120_power_up(m: &mut Module, image: &[u8]) -> u32
     done.code
 }
 
-// The kept values, as the first 717 bytes of the buffer.
+// The kept values, as the first 886 bytes of the buffer.
 #[no_mangle]
 pub extern "C" fn pd3120_store(m: &Module, buf: &mut [u8]) -> u32
     ensures { λ r. ⌜ Stored (now (m .entry)) (now (buf .entry)) r (now (buf .exit)) ⌝ }
@@ -71,18 +72,31 @@ pub extern "C" fn pd3120_read(m: &mut Module, swno: u16, buf: &mut [u8]) -> u32
 {
     let at = registers::wire_slot(swno);
     let seen = calls::words_of(*m);
-    let done = calls::read(m.shared, m.service, m.channels[at], seen, swno, buf);
+    let done = calls::read(
+        m.shared,
+        m.service,
+        m.channels[at],
+        m.data_channel,
+        seen,
+        swno,
+        buf,
+    );
     m.service = done.service;
     m.channels[at] = done.channel;
     done.code
 }
 
+// The data channel is written only where the register comes to it, so that other writes do not copy
+// it.
 #[no_mangle]
 pub extern "C" fn pd3120_write(m: &mut Module, swno: u16, bytes: &[u8]) -> u32
     ensures { λ r. ⌜ Left (step (now (m .entry)) (write swno (now (bytes .entry)))) (now (m .exit)) r ⌝ }
 {
     let at = registers::wire_slot(swno);
     let begun = calls::begin_write(m.shared, m.service, m.channels[at], swno, bytes);
+    if begun.of_data {
+        m.data_channel = calls::write_data(m.shared, m.data_channel, swno, bytes);
+    }
     m.shared = begun.shared;
     m.service = begun.service;
     m.channels[at] = begun.channel;
@@ -114,6 +128,14 @@ pub extern "C" fn pd3120_current(m: &mut Module, channel: u8, amperes: f32) -> u
     done.code
 }
 
+// The answer's number and the bits of its Real (specs/Codes.antt).
+#[no_mangle]
+pub extern "C" fn pd3120_look_up(m: &Module, table: u8, x: f32) -> u64
+    ensures { λ r. ⌜ r ≡ lookUpCode (step (now (m .entry)) (lookUp table x) .answer) ⌝ }
+{
+    calls::look_up(m.data_channel, table, x)
+}
+
 // The save is a loop of its own, so that the ticks without it, all but one in ten hours, do not touch
 // the kept values.
 #[no_mangle]
@@ -123,6 +145,7 @@ pub extern "C" fn pd3120_tick(m: &mut Module)
     let begun = ticks::begin(*m);
     m.shared = begun.shared;
     m.service = begun.service;
+    m.data_channel = ticks::tick_data(begun, m.data_channel);
     let mut k = 0;
     while k < 16 {
         m.channels[k] = ticks::tick_one(begun, m.channels[k]);

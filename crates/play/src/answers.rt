@@ -1,6 +1,7 @@
 // The line that a call is answered with.
 ghost use Prim.Native.Nat.{_≤_};
 ghost use lib.ListN.{length};
+use integers::bytes;
 use model::Reply;
 use pd3120::replies;
 use script::calls::Line;
@@ -94,6 +95,15 @@ fn put_write(
     print::put(out, t2, b"\n")
 }
 
+// lookup NUMBER REAL
+fn put_look_up(out: &mut [u8], at: usize, reply: Reply, real_bits: u32) -> usize
+    requires { ⌜ at ≤ length (now out) ⌝ }
+    ensures { λ r. ⌜ r ≤ length (now (out .exit)) ⌝ }
+{
+    let to = put_head(out, at, b"lookup", reply);
+    put_buffer(out, to, &bytes::bytes_of_u32(real_bits))
+}
+
 // Why a line is no call.
 fn put_why(out: &mut [u8], at: usize, why: Wrong) -> usize
     requires { ⌜ at ≤ length (now out) ⌝ }
@@ -130,6 +140,7 @@ pub(crate) fn put_answer(
     reply: Reply,
     data_error: bool,
     general_error: bool,
+    real_bits: u32,
     bytes: &[u8],
 ) -> usize
     requires { ⌜ at ≤ length (now out) ⌝ }
@@ -144,6 +155,7 @@ pub(crate) fn put_answer(
         Line::Write(_) => put_write(out, at, reply, data_error, general_error),
         Line::Level(_, _) => put_plain(out, at, b"level", reply),
         Line::Current(_, _) => put_plain(out, at, b"current", reply),
+        Line::LookUp(_, _) => put_look_up(out, at, reply, real_bits),
         Line::Tick(_) => put_plain(out, at, b"tick", reply),
     }
 }

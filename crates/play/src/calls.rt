@@ -13,6 +13,7 @@ fn plain(after: Module, reply: Reply) -> Answered {
         reply: reply,
         data_error: false,
         general_error: false,
+        real_bits: 0,
     }
 }
 
@@ -64,6 +65,9 @@ pub(crate) fn perform(m: Module, line: Line, bytes: &mut [u8]) -> Answered {
                 b"",
                 bytes,
             )
+        }
+        Line::LookUp(table, real) => {
+            make(m, Call::LookUp(table, reals::of_bits(real)), 1, b"", bytes)
         }
         Line::Tick(n) => make(m, Call::Tick, n, b"", bytes),
     }

@@ -69,6 +69,7 @@ fn run_line(p: Player, line: &[u8], space: &mut [u8], out: &mut [u8], at: usize)
         reply,
         answered.data_error,
         answered.general_error,
+        answered.real_bits,
         &space[0..n],
     );
     next_line(after, number, to)

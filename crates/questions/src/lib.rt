@@ -1,8 +1,8 @@
-// The questions of wire calls and samples, in order: each answer is the refusal of the first
+// The questions of wire calls, samples and lookups, in order: each answer is the refusal of the first
 // question whose answer is no, or what is done.
 ghost use mathlib.Core.Path.{_≡_};
 ghost use Rattle.model.specs.Settings.{isDigital};
-ghost use Rattle.model.specs.Questions.{question1, question2, question3, question4, question6, readReply, writeReply, levelReply, currentReply};
+ghost use Rattle.model.specs.Questions.{question1, question2, question3, question4, question6, readReply, writeReply, levelReply, currentReply, lookUpReply};
 ghost use Rattle.registers.specs.Places.{placed};
 
 mod values;
@@ -12,11 +12,11 @@ use model::Reply;
 use numbers::reals;
 use registers::Place;
 
-// 1. SWNo at most $11F?
+// 1. SWNo at most $13F?
 fn within(swno: u16) -> bool
     ensures { λ b. ⌜ b ≡ question1 swno ⌝ }
 {
-    swno <= 0x11F
+    swno <= 0x13F
 }
 
 // 2. Register listed?
@@ -27,6 +27,7 @@ fn listed(p: Place) -> bool
         Place::Service(_) => true,
         Place::Digital(_, _) => true,
         Place::Common(_) => true,
+        Place::Data(_) => true,
         Place::Unlisted => false,
     }
 }
@@ -121,6 +122,20 @@ pub fn current_reply(k: u8, x: f32) -> Reply
     }
     if !reals::is_finite(x) {
         return Reply::Refused(Refusal::NotFinite);
+    }
+    Reply::Done(0)
+}
+
+// 15 of the table's number, and 7 of X.
+pub fn look_up_reply(k: u8, x: f32) -> Reply
+    ensures { λ r. ⌜ r ≡ lookUpReply k x ⌝ }
+{
+    let known = (k == 1) | (k == 2);
+    if !known {
+        return Reply::Refused(Refusal::NoTable);
+    }
+    if !reals::is_finite(x) {
+        return Reply::Refused(Refusal::NotAllowed);
     }
     Reply::Done(0)
 }

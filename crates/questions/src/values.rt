@@ -1,9 +1,10 @@
 // Question 7: which bytes each register allows. The length of the bytes is asked before.
 ghost use mathlib.Core.Path.{_≡_};
 ghost use lib.ListN.{length};
-ghost use Rattle.model.specs.Registers.{serviceRow, digitalRow, size};
-ghost use Rattle.model.specs.Writes.{allZero, serviceAllowed, digitalAllowed, allowed};
+ghost use Rattle.model.specs.Registers.{serviceRow, digitalRow, dataRow, size};
+ghost use Rattle.model.specs.Writes.{allZero, serviceAllowed, digitalAllowed, dataAllowed, allowed};
 ghost use Rattle.registers.specs.Places.{placed};
+use model::DataRegister;
 use model::DigitalRegister;
 use model::ServiceRegister;
 use numbers::reals;
@@ -60,6 +61,20 @@ fn digital_allowed(r: DigitalRegister, bytes: &[u8]) -> bool
     }
 }
 
+fn data_allowed(r: DataRegister, bytes: &[u8]) -> bool
+    requires { ⌜ length (now bytes) ≡ dataRow r .size ⌝ }
+    ensures { λ b. ⌜ b ≡ dataAllowed r (now (bytes .entry)) ⌝ }
+{
+    match r {
+        DataRegister::RealA => fields::real_allowed(bytes),
+        DataRegister::RealB => fields::real_allowed(bytes),
+        DataRegister::TimerA => written::timer_allowed(fields::real_from(bytes)),
+        DataRegister::TimerB => written::timer_allowed(fields::real_from(bytes)),
+        DataRegister::LookUp1 => fields::table_allowed(bytes),
+        DataRegister::LookUp2 => fields::table_allowed(bytes),
+    }
+}
+
 pub(crate) fn allowed(p: Place, bytes: &[u8]) -> bool
     requires { ⌜ length (now bytes) ≡ size (placed p) ⌝ }
     ensures { λ b. ⌜ b ≡ allowed (placed p) (now (bytes .entry)) ⌝ }
@@ -68,6 +83,7 @@ pub(crate) fn allowed(p: Place, bytes: &[u8]) -> bool
         Place::Service(r) => service_allowed(r, bytes),
         Place::Digital(_, r) => digital_allowed(r, bytes),
         Place::Common(_) => true,
+        Place::Data(r) => data_allowed(r, bytes),
         Place::Unlisted => true,
     }
 }

@@ -9,7 +9,7 @@ use Rattle.model.specs.declared.Module.{Module}
 use Rattle.model.specs.declared.Reply.{Reply}
 use Rattle.model.specs.declared.Reply.the-variants.{Done, Refused}
 use Rattle.model.specs.State.{nothing, channelAt}
-use Rattle.model.specs.Registers.{Place, place, service, digital, common, unlisted}
+use Rattle.model.specs.Registers.{Place, place, service, digital, common, data-channel, unlisted}
 use Rattle.model.specs.Reads.{digitalRead, afterRead}
 use Rattle.model.specs.Calls.{readLeaves}
 use Rattle.model.specs.Questions.{readReply}
@@ -24,6 +24,7 @@ unfolding afterRead
 service-left (service r) m = refl
 service-left (digital k r) m = refl
 service-left (common r) m = refl
+service-left (data-channel r) m = refl
 service-left unlisted m = refl
 
 pub channel-left : (p : Place) (i : ℕ) (m : Module) → OfChannel i p → i < length (m .channels)
@@ -34,6 +35,7 @@ channel-left (digital k r) i m o h =
     let l : k - 1 < length (m .channels) = omega arith in
     rw (o, getD-set-same (m .channels) (k - 1) (digitalRead r (channelAt m k)) nothing l)
 channel-left (common r) i m o h = refl
+channel-left (data-channel r) i m o h = refl
 channel-left unlisted i m o h = refl
 
 -- ---- put back, they are the box
@@ -45,6 +47,7 @@ after-back (digital k r) i m o h =
     let l : k - 1 < length (m .channels) = omega arith in
     rw (o, getD-set-same (m .channels) (k - 1) (digitalRead r (channelAt m k)) nothing l)
 after-back (common r) i m o h = rw (set-getD (m .channels) i nothing)
+after-back (data-channel r) i m o h = rw (set-getD (m .channels) i nothing)
 after-back unlisted i m o h = rw (set-getD (m .channels) i nothing)
 
 leaves-back : (r : Reply) (p : Place) (i : ℕ) (m : Module) → OfChannel i p → i < length (m .channels)

@@ -4,7 +4,7 @@ use Prim.Native.Nat.{ℕ, _-_}
 use lib.ListN.{length, replicate}
 use Rattle.reads.specs.declared.buffer.RegisterBytes.{RegisterBytes}
 
--- the size of the largest register
+-- the size of the largest register but the level tables, which go to the buffer pair by pair
 abbrev pub width : ℕ
 width = 12
 

@@ -5,7 +5,7 @@ ghost use lib.ListN.{length, take};
 ghost use Rattle.model.specs.Calls.{overwritten};
 ghost use Rattle.reads.specs.Held.{width, held};
 
-// The size of the largest register.
+// The size of the largest register but the level tables.
 pub const WIDTH: usize = 12;
 
 // The first len of bytes are the register's, the rest are 0.

@@ -18,16 +18,6 @@ use model::Config;
 use numbers::reals;
 use numbers::times;
 
-// No register: no byte.
-pub(crate) fn none() -> RegisterBytes
-    ensures { λ r. ⌜ r ≡ held [] ⌝ }
-{
-    RegisterBytes {
-        bytes: [0; buffer::WIDTH],
-        len: 0,
-    }
-}
-
 pub(crate) fn one(b: u8) -> RegisterBytes
     ensures { λ r. ⌜ r ≡ held (b ∷ []) ⌝ }
 {

@@ -29,4 +29,4 @@ pub slot-fits : (k : ℕ) → slotOf k < 16
 slot-fits k = by-test (λ (i : ℕ). i < 16) (isDigital k) (λ e. let (p, q) = range k e in omega (arith, p, q)) (λ e. omega arith)
 
 pub slot-of : (n : ℕ) → OfChannel (slotOf (n / 16)) (place n)
-slot-of n = place-cases (OfChannel (slotOf (n / 16))) n tt (λ e r q. tt) (λ e r q. tt) (λ l h r e. sym (slot-in (n / 16) l h))
+slot-of n = place-cases (OfChannel (slotOf (n / 16))) n tt (λ e r q. tt) (λ e r q. tt) (λ e r q. tt) (λ l h r e. sym (slot-in (n / 16) l h))

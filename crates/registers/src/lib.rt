@@ -7,15 +7,17 @@ ghost use Rattle.model.specs.Questions.{isWritable, isProtected};
 ghost use Rattle.registers.specs.Places.{placed, slotOf};
 use model::Access;
 use model::CommonRegister;
+use model::DataRegister;
 use model::DigitalRegister;
 use model::ServiceRegister;
 
-// A register of the service channel, of a digital channel by its number, or of the common channel;
-// or none that is listed.
+// A register of the service channel, of a digital channel by its number, of the common or of the
+// data channel; or none that is listed.
 pub enum Place {
     Service(ServiceRegister),
     Digital(u8, DigitalRegister),
     Common(CommonRegister),
+    Data(DataRegister),
     Unlisted,
 }
 
@@ -70,6 +72,20 @@ fn common_place(n: u16) -> Place
     }
 }
 
+fn data_place(n: u16) -> Place
+    ensures { λ r. ⌜ placed r ≡ Table.find Table.data-channel Table.dataRow n Table.dataRegisters ⌝ }
+{
+    match n {
+        0x0 => Place::Data(DataRegister::RealA),
+        0x1 => Place::Data(DataRegister::RealB),
+        0xA => Place::Data(DataRegister::TimerA),
+        0xB => Place::Data(DataRegister::TimerB),
+        0xC => Place::Data(DataRegister::LookUp1),
+        0xD => Place::Data(DataRegister::LookUp2),
+        _ => Place::Unlisted,
+    }
+}
+
 // SWNo = channel times $10 + register.
 pub fn place_of(swno: u16) -> Place
     ensures { λ r. ⌜ placed r ≡ Table.place swno ⌝ }
@@ -81,6 +97,9 @@ pub fn place_of(swno: u16) -> Place
     }
     if channel == 17 {
         return common_place(register);
+    }
+    if channel == 19 {
+        return data_place(register);
     }
     if 16 < channel {
         return Place::Unlisted;
@@ -157,6 +176,19 @@ fn common_access(r: CommonRegister) -> Access
     }
 }
 
+fn data_access(r: DataRegister) -> Access
+    ensures { λ a. ⌜ a ≡ Table.dataRow r .access ⌝ }
+{
+    match r {
+        DataRegister::RealA => Access::Writable,
+        DataRegister::RealB => Access::Writable,
+        DataRegister::TimerA => Access::Writable,
+        DataRegister::TimerB => Access::Writable,
+        DataRegister::LookUp1 => Access::Protected,
+        DataRegister::LookUp2 => Access::Protected,
+    }
+}
+
 pub fn access(p: Place) -> Access
     ensures { λ a. ⌜ a ≡ Table.access (placed p) ⌝ }
 {
@@ -164,6 +196,7 @@ pub fn access(p: Place) -> Access
         Place::Service(r) => service_access(r),
         Place::Digital(_, r) => digital_access(r),
         Place::Common(r) => common_access(r),
+        Place::Data(r) => data_access(r),
         Place::Unlisted => Access::ReadOnly,
     }
 }
@@ -216,6 +249,19 @@ fn common_size(r: CommonRegister) -> usize
     }
 }
 
+fn data_size(r: DataRegister) -> usize
+    ensures { λ n. ⌜ n ≡ Table.dataRow r .size ⌝ }
+{
+    match r {
+        DataRegister::RealA => 4,
+        DataRegister::RealB => 4,
+        DataRegister::TimerA => 4,
+        DataRegister::TimerB => 4,
+        DataRegister::LookUp1 => 80,
+        DataRegister::LookUp2 => 80,
+    }
+}
+
 pub fn size(p: Place) -> usize
     ensures { λ n. ⌜ n ≡ Table.size (placed p) ⌝ }
 {
@@ -223,6 +269,7 @@ pub fn size(p: Place) -> usize
         Place::Service(r) => service_size(r),
         Place::Digital(_, r) => digital_size(r),
         Place::Common(r) => common_size(r),
+        Place::Data(r) => data_size(r),
         Place::Unlisted => 0,
     }
 }

@@ -21,6 +21,7 @@ pub enum Line {
     Write(u16),
     Level(u8, bool),
     Current(u8, u32),
+    LookUp(u8, u32),
     Tick(u32),
 }
 
@@ -146,22 +147,26 @@ pub fn parse_level(count: usize, first: &[u8], second: &[u8]) -> Parsed
     wrong(Wrong::NotBit)
 }
 
-pub fn parse_current(count: usize, first: &[u8], second: &[u8]) -> Parsed
+// A number and a Real, for a current or for a lookup.
+pub fn parse_real(looks_up: bool, count: usize, first: &[u8], second: &[u8]) -> Parsed
     ensures { λ r. ⌜ r .n ≤ 0 ⌝ }
 {
     if count != 2 {
         return wrong(Wrong::WordCount);
     }
-    let channel = parameters::decimal(first, 255);
-    let channel_why = channel.why;
-    if !channel.right {
-        return wrong(channel_why);
+    let number = parameters::decimal(first, 255);
+    let number_why = number.why;
+    if !number.right {
+        return wrong(number_why);
     }
-    let k = channel.value as u8;
+    let k = number.value as u8;
     let real = parameters::real(second);
     let real_why = real.why;
     if !real.right {
         return wrong(real_why);
+    }
+    if looks_up {
+        return plain(Line::LookUp(k, real.value));
     }
     plain(Line::Current(k, real.value))
 }

@@ -18,6 +18,7 @@ enum Name {
     Write,
     Level,
     Current,
+    LookUp,
     Tick,
     Unknown,
 }
@@ -41,6 +42,9 @@ fn name_of(word: &[u8]) -> Name {
     if words::same(word, b"current") {
         return Name::Current;
     }
+    if words::same(word, b"lookup") {
+        return Name::LookUp;
+    }
     if words::same(word, b"tick") {
         return Name::Tick;
     }
@@ -56,7 +60,8 @@ fn parse_call(name: Name, count: usize, first: &[u8], second: &[u8], space: &mut
         Name::Read => calls::parse_wire(false, count, first, second, space),
         Name::Write => calls::parse_wire(true, count, first, second, space),
         Name::Level => calls::parse_level(count, first, second),
-        Name::Current => calls::parse_current(count, first, second),
+        Name::Current => calls::parse_real(false, count, first, second),
+        Name::LookUp => calls::parse_real(true, count, first, second),
         Name::Tick => calls::parse_tick(count, first),
         Name::Unknown => calls::wrong(Wrong::UnknownCall),
     }

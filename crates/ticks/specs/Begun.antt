@@ -1,11 +1,13 @@
--- A tick in two parts: what it has worked out when it comes to the channels, and what that makes of each channel. Definitions only.
+-- A tick in two parts: what it has worked out when it comes to the channels, and what that makes of each of them and of the data channel. Definitions only.
 use mathlib.Core.Bool.{cond}
 use mathlib.Core.List.{map}
+use lib.Dec.{ltb}
 use Rattle.model.specs.declared.Channel.{Channel}
+use Rattle.model.specs.declared.DataChannel.{DataChannel}
 use Rattle.model.specs.declared.Module.{Module}
 use Rattle.model.specs.State.{inFlag, wdTimer}
 use Rattle.model.specs.Errors.{wordOf}
-use Rattle.model.specs.Tick.{saveDue, tickShared, runsOut, tickService, driven, lookDue, looked, judged}
+use Rattle.model.specs.Tick.{saveDue, tickShared, runsOut, tickService, driven, lookDue, looked, judged, dataTicked}
 use Rattle.settings.specs.Levels.{levelsOf}
 use Rattle.ticks.specs.declared.Begun.{Begun}
 
@@ -25,3 +27,7 @@ begunOf m =
 -- one channel: off where the watchdog ran out, then steps 2 to 6
 unfoldable pub tickedBy : Begun → Channel → Channel
 tickedBy b ch = judged (b .shared) (looked (b .shared) (levelsOf (b .levels)) (driven (b .shared) (b .«ran_out») ch))
+
+-- the data channel: a tick that saves channels keeps RealA
+unfoldable pub dataTickedBy : Begun → DataChannel → DataChannel
+dataTickedBy b d = dataTicked (ltb 0 (b .count)) d

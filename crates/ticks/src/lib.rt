@@ -1,5 +1,5 @@
 // The whole tick, 1/32 s: it begins with step 1 on the shared record and the watchdog, and then goes
-// over the channels, each by itself against the InFlags of the tick's start.
+// over the data channel, and over the channels, each by itself against the InFlags of the tick's start.
 ghost use mathlib.Core.Path.{_≡_};
 ghost use mathlib.Core.Bool.{cond};
 ghost use mathlib.Core.List.{map};
@@ -7,10 +7,12 @@ ghost use Rattle.model.specs.State.{inFlag};
 ghost use Rattle.model.specs.Errors.{bitValue, wordOf};
 ghost use Rattle.model.specs.Tick.{saveDue, tickShared, watchdogOn, isZero, runsOut, tickService, driven, lookDue, looked, judged, saved, ticked};
 ghost use Rattle.settings.specs.Levels.{levelsOf};
-ghost use Rattle.ticks.specs.Begun.{begunOf, tickedBy};
+ghost use Rattle.ticks.specs.Begun.{begunOf, tickedBy, dataTickedBy};
 ghost use Rattle.ticks.specs.PutBack.{putBack};
 use counts::TimerCount;
 use model::Channel;
+use model::DataChannel;
+use model::DataTimers;
 use model::Module;
 use model::Service;
 use model::Shared;
@@ -170,6 +172,25 @@ pub fn tick_one(b: Begun, ch: Channel) -> Channel
     put_back(tick_channel(s, b.ran_out, b.levels, ch), ch)
 }
 
+// The data channel: its timers run, and a tick that saves keeps RealA.
+pub fn tick_data(b: Begun, d: DataChannel) -> DataChannel
+    ensures { λ r. ⌜ r ≡ dataTickedBy b d ⌝ }
+{
+    let before = d.timers;
+    let timers = DataTimers {
+        a: before.a.out_timer_tick(),
+        b: before.b.out_timer_tick(),
+    };
+    let real_a = d.reals.a;
+    let mut next = d;
+    next.timers = timers;
+    if 0 < b.count {
+        next.kept.a = real_a;
+        return next;
+    }
+    next
+}
+
 // From channel 1 to 16, each with step 7.
 fn tick_channels(b: Begun, due: bool, channels: [Channel; 16]) -> [Channel; 16]
     ensures { λ r. ⌜ r ≡ map (λ ch. saved due (tickedBy b ch)) channels ⌝ }
@@ -191,9 +212,11 @@ pub fn tick(m: Module) -> Module
     let shared = b.shared;
     let service = b.service;
     let channels = m.channels;
+    let data = m.data_channel;
     Module {
         shared: shared,
         service: service,
         channels: tick_channels(b, due, channels),
+        data_channel: tick_data(b, data),
     }
 }

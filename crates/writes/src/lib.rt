@@ -1,20 +1,23 @@
 // Writes of a register: the questions, and the effect of an accepted write on the box. It changes
 // the shared record, the service record and the SWNo's own channel first, and then, where the
-// register asks for it, every channel in turn. The clearing and the preset of a wire call stand
-// around it.
+// register asks for it, the data channel and every channel in turn. The clearing and the preset of a
+// wire call stand around it.
 ghost use mathlib.Core.Path.{_≡_};
 ghost use Prim.Native.Nat.{_≤_};
 ghost use Rattle.registers.specs.Places.{placed};
 ghost use Rattle.writes.specs.Accepted.{Accepted, writeOf};
-ghost use Rattle.writes.specs.Begun.{sharedAfter, serviceAfter, channelAfter, countOf, writtenWord, eachWritten, firstEach, BegunBy};
+ghost use Rattle.writes.specs.Begun.{sharedAfter, serviceAfter, channelAfter, dataAfter, dataBy, countOf, ofData, writtenWord, eachWritten};
+ghost use Rattle.writes.specs.Begun.{firstEach, BegunBy};
 
 mod common;
+mod data;
 mod digital;
 mod reset;
 mod service;
 mod values;
 
 use model::Channel;
+use model::DataChannel;
 use model::Module;
 use model::Reply;
 use model::Service;
@@ -28,13 +31,15 @@ pub struct Written {
 }
 
 // What a write has done before it comes to every channel: its answer, the records and the SWNo's
-// own channel. `each` is then to be asked for the first count channels, with the place and the word.
+// own channel. `each` is then to be asked for the first count channels, with the place and the word,
+// and `data_after` where of_data; elsewhere the data channel stays.
 pub struct Begun {
     pub reply: Reply,
     pub shared: Shared,
     pub service: Service,
     pub channel: Channel,
     pub count: usize,
+    pub of_data: bool,
     pub place: Place,
     pub word: u16,
 }
@@ -47,6 +52,7 @@ fn shared_after(p: Place, b: &[u8], s: Shared) -> Shared
         Place::Service(r) => service::write_shared(r, b, s),
         Place::Digital(_, _) => s,
         Place::Common(_) => s,
+        Place::Data(_) => s,
         Place::Unlisted => s,
     }
 }
@@ -58,6 +64,7 @@ fn service_after(p: Place, v: Service) -> Service
         Place::Service(r) => service::write_errors(r, v),
         Place::Digital(_, _) => v,
         Place::Common(_) => v,
+        Place::Data(_) => v,
         Place::Unlisted => v,
     }
 }
@@ -70,7 +77,21 @@ fn channel_after(p: Place, s: Shared, b: &[u8], ch: Channel) -> Channel
         Place::Service(_) => ch,
         Place::Digital(_, r) => digital::write_digital(r, s, b, ch),
         Place::Common(_) => ch,
+        Place::Data(_) => ch,
         Place::Unlisted => ch,
+    }
+}
+
+fn data_written(p: Place, s: Shared, b: &[u8], d: DataChannel) -> DataChannel
+    requires { ⌜ Accepted (placed p) (now b) ⌝ }
+    ensures { λ r. ⌜ r ≡ dataAfter (placed p) s (now (b .entry)) d ⌝ }
+{
+    match p {
+        Place::Service(r) => service::write_data(r, d),
+        Place::Digital(_, _) => d,
+        Place::Common(_) => d,
+        Place::Data(r) => data::write_data(r, s, b, d),
+        Place::Unlisted => d,
     }
 }
 
@@ -81,7 +102,20 @@ fn count_of(p: Place) -> usize
         Place::Service(r) => service::count_of(r),
         Place::Digital(_, _) => 0,
         Place::Common(_) => 16,
+        Place::Data(_) => 0,
         Place::Unlisted => 0,
+    }
+}
+
+fn of_data(p: Place) -> bool
+    ensures { λ r. ⌜ r ≡ ofData (placed p) ⌝ }
+{
+    match p {
+        Place::Service(r) => 0 < service::count_of(r),
+        Place::Digital(_, _) => false,
+        Place::Common(_) => false,
+        Place::Data(_) => true,
+        Place::Unlisted => false,
     }
 }
 
@@ -93,6 +127,7 @@ fn word_of(p: Place, b: &[u8]) -> u16
         Place::Service(_) => 0,
         Place::Digital(_, _) => 0,
         Place::Common(_) => fields::word_from(b),
+        Place::Data(_) => 0,
         Place::Unlisted => 0,
     }
 }
@@ -111,6 +146,7 @@ pub fn begin(s: Shared, v: Service, ch: Channel, swno: u16, b: &[u8]) -> Begun
             service: service_after(p, v),
             channel: channel_after(p, s, b, ch),
             count: count_of(p),
+            of_data: of_data(p),
             place: p,
             word: word_of(p, b),
         },
@@ -120,9 +156,22 @@ pub fn begin(s: Shared, v: Service, ch: Channel, swno: u16, b: &[u8]) -> Begun
             service: v,
             channel: ch,
             count: 0,
+            of_data: false,
             place: p,
             word: 0,
         },
+    }
+}
+
+// The data channel after a write, done or refused; s is the shared record before it.
+pub fn data_after(s: Shared, d: DataChannel, swno: u16, b: &[u8]) -> DataChannel
+    ensures { λ r. ⌜ r ≡ dataBy s swno (now (b .entry)) d ⌝ }
+{
+    let p = registers::place_of(swno);
+    let reply = questions::write_reply(s.write_enable, swno, p, b);
+    match reply {
+        Reply::Done(_) => data_written(p, s, b, d),
+        Reply::Refused(_) => d,
     }
 }
 
@@ -134,6 +183,7 @@ pub fn each(p: Place, word: u16, k: usize, ch: Channel) -> Channel
         Place::Service(r) => service::write_every(r, ch),
         Place::Digital(_, _) => ch,
         Place::Common(r) => common::write_bit(r, settings::bit_of(word, k), ch),
+        Place::Data(_) => ch,
         Place::Unlisted => ch,
     }
 }
@@ -159,6 +209,7 @@ pub fn write(m: Module, swno: u16, b: &[u8]) -> Written
     let at = registers::wire_slot(swno);
     let shared = m.shared;
     let service = m.service;
+    let data = m.data_channel;
     let mut channels = m.channels;
     let ch = channels[at];
     let begun = begin(shared, service, ch, swno, b);
@@ -172,6 +223,7 @@ pub fn write(m: Module, swno: u16, b: &[u8]) -> Written
         shared: next_shared,
         service: next_service,
         channels: first_each(place, begun.word, begun.count, channels),
+        data_channel: data_after(shared, data, swno, b),
     };
     Written {
         reply: reply,

@@ -1,16 +1,18 @@
-// What an accepted write of a service register does, in three parts: to what every channel may
-// learn, to the service channel's errors, and to every channel.
+// What an accepted write of a service register does, in four parts: to what every channel may
+// learn, to the service channel's errors, to every channel, and to the data channel.
 ghost use mathlib.Core.Path.{_≡_};
 ghost use mathlib.Core.Bool.{true};
 ghost use lib.ListN.{length};
 ghost use Rattle.model.specs.Registers.{serviceRow};
 ghost use Rattle.model.specs.Writes.{setModuleConfig, setWDPreset, setWriteEnable, serviceAllowed, sharedWritten, errorsWritten, everyWritten};
+ghost use Rattle.model.specs.Writes.{dataReset};
 ghost use Rattle.writes.specs.Begun.{serviceCount};
 use crate::reset;
 use crate::values;
 use counts::TimerCount;
 use model::Channel;
 use model::Config;
+use model::DataChannel;
 use model::Service;
 use model::ServiceRegister;
 use model::Shared;
@@ -82,6 +84,21 @@ pub(crate) fn write_every(r: ServiceRegister, ch: Channel) -> Channel
         ServiceRegister::WDPreset => ch,
         ServiceRegister::WriteEnable => ch,
         ServiceRegister::CommonError => channel::acknowledge(ch),
+    }
+}
+
+pub(crate) fn write_data(r: ServiceRegister, d: DataChannel) -> DataChannel
+    ensures { λ next. ⌜ next ≡ dataReset r d ⌝ }
+{
+    match r {
+        ServiceRegister::Highest => d,
+        ServiceRegister::Reset => reset::reset_data(d),
+        ServiceRegister::FreeRunTimer => d,
+        ServiceRegister::WDTimer => d,
+        ServiceRegister::ModuleConfig => d,
+        ServiceRegister::WDPreset => d,
+        ServiceRegister::WriteEnable => d,
+        ServiceRegister::CommonError => d,
     }
 }
 

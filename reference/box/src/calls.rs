@@ -6,6 +6,7 @@ mod reads;
 mod writes;
 
 use crate::channel::{Channel, Config};
+use crate::data::DataChannel;
 use crate::errors::{EXTERNAL_RESET, INTERNAL_RESET, RUN_OUT};
 use crate::image::{self, Settings};
 use crate::reals::{self, Real};
@@ -19,6 +20,7 @@ pub struct ChannelBox {
     pub module_config: Config,
     pub wd_preset: i32,
     pub channels: [Channel; CHANNELS],
+    pub data: DataChannel,
     pub free_run_timer: i32,
     pub wd_timer: i32,
     pub write_enable: bool,
@@ -58,6 +60,7 @@ impl ChannelBox {
             module_config: settings.module_config,
             wd_preset: settings.wd_preset,
             channels: settings.channels.map(Channel::restored),
+            data: DataChannel::restored(settings.data),
             free_run_timer: 0,
             wd_timer: settings.wd_preset,
             write_enable: false,
@@ -73,6 +76,7 @@ impl ChannelBox {
             module_config: self.module_config,
             wd_preset: self.wd_preset,
             channels: self.channels.map(|channel| channel.kept),
+            data: self.data.kept,
         }
     }
 
@@ -90,8 +94,9 @@ impl ChannelBox {
         }
     }
 
-    /// "Storing writes kept values." "Storing: buffer at least 717? 14.
-    /// Storing answers its number and the length 717."
+    /// "Storing writes kept values." "Storing: buffer at least [886]? 14.
+    /// Storing answers its number and the length [886]." Change 1: "storing
+    /// writes the long one and needs its length".
     pub fn store(&self, buffer: &mut [u8]) -> (u8, usize) {
         match buffer.get_mut(..image::LENGTH) {
             Some(front) => {

@@ -5,7 +5,7 @@
 
 use crate::calls::ChannelBox;
 use crate::channel::Channel;
-use crate::registers::LONGEST;
+use crate::registers::COMMON_ERROR_LENGTH;
 
 /// Service bit 7: "His bit 7 is set" by power-up.
 pub const INTERNAL_RESET: u8 = 1 << 7;
@@ -69,8 +69,8 @@ impl ChannelBox {
     /// "CommonError holds His at 0, Act at 2, ComHis at 4 to 6, ComAct at 8
     /// to 10 (bit n for channel n, low byte first; channels 1 to 17), the
     /// rest 0."
-    pub(crate) fn common_error(&self) -> [u8; LONGEST] {
-        let mut bytes = [0; LONGEST];
+    pub(crate) fn common_error(&self) -> [u8; COMMON_ERROR_LENGTH] {
+        let mut bytes = [0; COMMON_ERROR_LENGTH];
         bytes[0] = self.service_his();
         bytes[2] = self.service_act();
         bytes[4..8].copy_from_slice(&per_channel(self.his_word()).to_le_bytes());

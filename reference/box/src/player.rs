@@ -82,10 +82,11 @@ mod tests {
     #[test]
     fn each_call_answers_its_line() {
         let script = "power -\nread 0 a5A5a5\nwrite d 01\nlevel 1 1\n\
-                      current 1 3f800000\ntick\ntick 3\nstore 2\nread 12 00000000\n";
+                      current 1 3f800000\ntick\ntick 3\nstore 2\nread 12 00000000\n\
+                      lookup 2 3F800000\n";
         let expected = [
             "power 10",
-            "read 0 2 0 1 011fa5",
+            "read 0 2 0 1 013fa5",
             "write 0 0 0 1",
             "level 0",
             "current 0",
@@ -93,8 +94,30 @@ mod tests {
             "tick 0",
             "store 14 0 a5a5",
             "read 0 4 1 1 00000001",
+            "lookup 0 00000000",
         ];
         assert_eq!(played(script), expected);
+    }
+
+    /// Change 1: a refused lookup gives 0, and a Real has lowercase digits.
+    #[test]
+    fn a_lookup_answers_its_number_and_a_real() {
+        let table = format!("00000000ABCDEF01{}", "00".repeat(72));
+        let script = format!(
+            "write d 01\nwrite 13d {table}\nlookup 2 80000000\nlookup 1 00000000\n\
+             lookup 0 7f800000\nlookup 3 00000000\nlookup 255 00000000\n\
+             lookup 002 7FC00000\nlookup 1 ff800000\n"
+        );
+        let expected = [
+            "lookup 0 abcdef01",
+            "lookup 0 00000000",
+            "lookup 15 00000000",
+            "lookup 15 00000000",
+            "lookup 15 00000000",
+            "lookup 7 00000000",
+            "lookup 7 00000000",
+        ];
+        assert_eq!(played(script)[2..], expected);
     }
 
     #[test]
@@ -147,6 +170,16 @@ mod tests {
             ("tick 4294967296", "number too large"),
             ("tick 99999999999999999999999999", "number too large"),
             ("tick one", "not a decimal number"),
+            ("Lookup 1 00000000", "unknown call"),
+            ("lookup", "wrong number of words"),
+            ("lookup 1", "wrong number of words"),
+            ("lookup 1 00000000 0", "wrong number of words"),
+            ("lookup 256 0", "number too large"),
+            ("lookup -1 0", "not a decimal number"),
+            ("lookup a 0", "not a decimal number"),
+            ("lookup 1 0000000", "not a hexadecimal string"),
+            ("lookup 1 000000000", "not a hexadecimal string"),
+            ("lookup 1 -", "not a hexadecimal string"),
         ] {
             let script = format!("\n{line}\ntick\n");
             let expected = [format!("error 2: {why}"), "tick 0".to_string()];
@@ -165,7 +198,7 @@ mod tests {
     fn long_numbers_with_leading_zeros_stand() {
         assert_eq!(
             played("read 0000000 0000\nlevel 0001 1\ntick 0000\n"),
-            ["read 0 2 0 1 011f", "level 0", "tick 0"]
+            ["read 0 2 0 1 013f", "level 0", "tick 0"]
         );
     }
 

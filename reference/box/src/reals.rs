@@ -3,6 +3,10 @@
 //! No machine float arithmetic is done here: a pattern is taken apart into
 //! sign, exponent and fraction, and put together again.
 
+mod arithmetic;
+
+pub use arithmetic::{add, divide, multiply, subtract};
+
 /// A Real of 32 bits as its bit pattern.
 pub type Real = u32;
 
@@ -77,6 +81,11 @@ pub fn greater(left: Real, right: Real) -> bool {
     less(right, left)
 }
 
+/// Whether two Reals are the same number; −0 equals 0, a NaN nothing.
+pub fn equal(left: Real, right: Real) -> bool {
+    place(left).is_some() && place(left) == place(right)
+}
+
 /// Finite, and from `low` up to, not including, `end`; "−0 tests as 0".
 fn is_from_up_to(real: Real, low: Real, end: Real) -> bool {
     is_finite(real) && !less(real, low) && less(real, end)
@@ -144,19 +153,19 @@ fn nearest(units: u32, places: u32) -> Real {
     let significand = if top <= FRACTION_BITS {
         units << (FRACTION_BITS - top)
     } else {
-        drop_bits_to_even(units, top - FRACTION_BITS)
+        drop_bits_to_even(u128::from(units), top - FRACTION_BITS) as u32
     };
     // The hidden bit, and a carry out of the fraction, raise the exponent.
     ((exponent - 1) << FRACTION_BITS) + significand
 }
 
 /// `units` without its last `bits` bits (at least one), rounded to nearest.
-fn drop_bits_to_even(units: u32, bits: u32) -> u32 {
+fn drop_bits_to_even(units: u128, bits: u32) -> u128 {
     let kept = units >> bits;
     let rest = units & ((1 << bits) - 1);
     let half = 1 << (bits - 1);
     let round_up = rest > half || (rest == half && kept & 1 == 1);
-    kept + u32::from(round_up)
+    kept + u128::from(round_up)
 }
 
 /// A timer count, in 1/256 s, as it reads.

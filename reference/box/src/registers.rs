@@ -3,12 +3,23 @@
 //! "SWNo = channel times $10 + register. R read only, P protected, W
 //! writable."
 
-/// "0 R highest SWNo, 2 bytes, $011F."
-pub const HIGHEST_SWNO: u16 = 0x011F;
-/// The length of CommonError, the longest register.
-pub const LONGEST: usize = 12;
+mod data;
+
+pub use data::Data;
+
+/// "0 R highest SWNo, 2 bytes". Change 1: "The highest SWNo is $13F".
+pub const HIGHEST_SWNO: u16 = 0x013F;
+/// The length of CommonError.
+pub const COMMON_ERROR_LENGTH: usize = 12;
+/// The length of a lookup table: "ten pairs of Reals X and Y".
+pub const TABLE_LENGTH: usize = 80;
+/// The length of the longest registers.
+pub const LONGEST: usize = TABLE_LENGTH;
 
 const COMMON_CHANNEL: u16 = 17;
+/// The manual's Calculator, which is left out.
+const CALCULATOR: u16 = 18;
+const DATA_CHANNEL: u16 = 19;
 
 #[derive(Clone, Copy, Debug, PartialEq, Eq)]
 pub enum Access {
@@ -66,10 +77,12 @@ pub enum Register {
     Service(Service),
     Digital(usize, Digital),
     Common(Common),
+    Data(Data),
 }
 
 impl Register {
-    /// "SWNo at most $11F? 1. Register listed? 2."
+    /// "SWNo at most [$13F]? 1. Register listed? 2." Change 1: "SWNos of $12
+    /// answer 2."
     pub fn find(swno: u16) -> Result<Register, u8> {
         if swno > HIGHEST_SWNO {
             return Err(1);
@@ -78,6 +91,8 @@ impl Register {
         let found = match swno >> 4 {
             0 => Service::find(register).map(Register::Service),
             COMMON_CHANNEL => Common::find(register).map(Register::Common),
+            CALCULATOR => None,
+            DATA_CHANNEL => Data::find(register).map(Register::Data),
             channel => {
                 let index = usize::from(channel) - 1;
                 Digital::find(register).map(|digital| Register::Digital(index, digital))
@@ -92,6 +107,7 @@ impl Register {
             Register::Service(register) => register.length(),
             Register::Digital(_, register) => register.length(),
             Register::Common(register) => register.length(),
+            Register::Data(register) => register.length(),
         }
     }
 
@@ -100,6 +116,7 @@ impl Register {
             Register::Service(register) => register.access(),
             Register::Digital(_, register) => register.access(),
             Register::Common(register) => register.access(),
+            Register::Data(register) => register.access(),
         }
     }
 }
@@ -123,7 +140,7 @@ impl Service {
         match self {
             Service::Reset | Service::WriteEnable => 1,
             Service::NumberOfSwNo => 2,
-            Service::CommonError => LONGEST,
+            Service::CommonError => COMMON_ERROR_LENGTH,
             Service::FreeRunTimer
             | Service::WdTimer
             | Service::ModuleConfig

@@ -19,6 +19,8 @@ impl ChannelBox {
         let run_out = self.count_service();
         let look = self.free_run_timer % LOOK == 0;
         let in_flags = self.in_flags();
+        // Change 1: "TimerA and TimerB as OutTimer".
+        self.data.count_timers(STEP);
         for channel in &mut self.channels {
             channel.tick(run_out, look, in_flags);
         }
@@ -40,7 +42,7 @@ impl ChannelBox {
 
     /// "7. Every 1152000th tick since power-up or reset (ten hours; the box
     /// counts from 0 to 1151999, a higher count acts as 1151999) Counter and
-    /// the operating count are kept."
+    /// the operating count are kept." Change 1: so is RealA.
     fn count_to_save(&mut self) {
         if self.save_count < LAST_OF_SAVE {
             self.save_count += 1;
@@ -50,6 +52,7 @@ impl ChannelBox {
         for channel in &mut self.channels {
             channel.keep_counts();
         }
+        self.data.keep_real_a();
     }
 }
 

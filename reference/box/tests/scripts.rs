@@ -16,6 +16,7 @@ const KINDS: &[&str] = &[
     "reset",
     "ends",
     "save",
+    "tables",
     "mixed",
 ];
 
@@ -70,7 +71,7 @@ fn the_scripts_reach_every_number_of_every_call() {
         let answers = played(&generated(seed, 3000, "refusals"));
         seen.extend(answers.lines().map(name_and_number));
     }
-    let expected: [(&str, &[u32]); 7] = [
+    let expected: [(&str, &[u32]); 8] = [
         ("power", &[0, 10, 11, 12, 13]),
         ("store", &[0, 14]),
         ("read", &[0, 1, 2, 5]),
@@ -78,6 +79,7 @@ fn the_scripts_reach_every_number_of_every_call() {
         ("level", &[0, 8]),
         ("current", &[0, 8, 9]),
         ("tick", &[0]),
+        ("lookup", &[0, 7, 15]),
     ];
     let expected: BTreeSet<(String, String)> = expected
         .iter()
@@ -110,10 +112,65 @@ fn his_of_ch_error(call: &str, answer: &str) -> Option<u8> {
 
 #[test]
 fn a_store_that_is_powered_up_again_is_stored_as_the_same_bytes() {
-    let script = generated(9, 600, "images") + "store 717\n";
-    let answers = played(&script);
-    let stored = answers.lines().last().expect("a last line");
-    let image = stored.strip_prefix("store 0 717 ").expect("done");
-    let again = played(&format!("power {image}\nstore 717\n"));
-    assert_eq!(again, format!("power 0\n{stored}\n"));
+    for kind in ["images", "tables"] {
+        let script = generated(9, 600, kind) + "store 886\n";
+        let answers = played(&script);
+        let stored = answers.lines().last().expect("a last line");
+        let image = stored.strip_prefix("store 0 886 ").expect("done");
+        let again = played(&format!("power {image}\nstore 886\n"));
+        assert_eq!(again, format!("power 0\n{stored}\n"));
+    }
+}
+
+/// Change 1: within a script or two, the data channel's corners are reached.
+#[test]
+fn the_scripts_of_tables_reach_every_number_of_theirs() {
+    let mut seen = BTreeSet::new();
+    for seed in 1..=3 {
+        let script = generated(seed, 1700, "tables");
+        let answers = played(&script);
+        for (call, answer) in script.lines().zip(answers.lines()) {
+            let number = answer.split(' ').nth(1).expect("a number");
+            seen.insert(format!("{} {number}", subject(call)));
+            seen.extend(answer.strip_prefix("lookup 0 ").map(str::to_string));
+        }
+    }
+    let expected: [(&str, &[u32]); 14] = [
+        ("power 717", &[0, 11, 12, 13]),
+        ("power 886", &[0, 11, 12, 13]),
+        ("power 0", &[10]),
+        ("power 716", &[10]),
+        ("power 718", &[10]),
+        ("power 885", &[10]),
+        ("power 887", &[10]),
+        ("store 885", &[14]),
+        ("store 886", &[0]),
+        ("store 887", &[0]),
+        ("read 13", &[0, 2, 5]),
+        ("write 13", &[0, 2, 4, 6, 7]),
+        ("write 12", &[2]),
+        ("lookup", &[0, 7, 15]),
+    ];
+    for (subject, numbers) in expected {
+        for number in numbers {
+            let what = format!("{subject} {number}");
+            assert!(seen.contains(&what), "{what}");
+        }
+    }
+    for real in ["7fc00000", "7f800000", "ff800000", "80000000"] {
+        assert!(seen.contains(real), "{real}");
+    }
+}
+
+/// A call's name, with what it is asked first by.
+fn subject(call: &str) -> String {
+    let words: Vec<&str> = call.split(' ').collect();
+    match words[..] {
+        ["power", "-"] => "power 0".to_string(),
+        ["power", image] => format!("power {}", image.len() / 2),
+        ["store", length] => format!("store {length}"),
+        [name @ ("read" | "write"), swno, _] => format!("{name} {}", &swno[..swno.len() - 1]),
+        [name, ..] => name.to_string(),
+        [] => String::new(),
+    }
 }

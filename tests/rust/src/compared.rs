@@ -17,8 +17,8 @@ pub struct Difference {
     device: Shown,
 }
 
-/// What is compared after a call: number, length, two bits and whole buffer, and
-/// the outputs.
+/// What is compared after a call: number, length, two bits, whole buffer and the
+/// bits of a Real, and the outputs.
 #[derive(Debug, PartialEq, Eq)]
 struct Shown {
     reply: Reply,
@@ -146,6 +146,9 @@ mod tests {
         }
         fn tick(&mut self) {
             self.0.tick();
+        }
+        fn lookup(&self, table: u8, x: Real) -> (u8, Real) {
+            self.0.lookup(table, x)
         }
         fn output(&self, channel: u8) -> bool {
             self.0.output(channel)

@@ -63,6 +63,13 @@ impl Device for Library {
         self.0.tick();
     }
 
+    fn lookup(&self, table: u8, x: Real) -> (u8, Real) {
+        match self.0.look_up(table, f32::from_bits(x)) {
+            Ok(level) => (0, level.to_bits()),
+            Err(error) => (error.number(), 0),
+        }
+    }
+
     fn output(&self, channel: u8) -> bool {
         self.0.output(channel)
     }

@@ -86,10 +86,43 @@ struct Service {
 }
 
 #[repr(C)]
+struct DataReals {
+    a: f32,
+    b: f32,
+}
+
+#[repr(C)]
+struct DataTimers {
+    a: i32,
+    b: i32,
+}
+
+#[repr(C)]
+struct Pair {
+    x: f32,
+    y: f32,
+}
+
+#[repr(C)]
+struct LevelTable {
+    pairs: [Pair; 10],
+}
+
+#[repr(C)]
+struct DataChannel {
+    reals: DataReals,
+    kept: DataReals,
+    timers: DataTimers,
+    table1: LevelTable,
+    table2: LevelTable,
+}
+
+#[repr(C)]
 struct Copied {
     shared: Shared,
     service: Service,
     channels: [Channel; 16],
+    data_channel: DataChannel,
 }
 
 fn look(module: &Module) -> &Copied {
@@ -99,8 +132,8 @@ fn look(module: &Module) -> &Copied {
 }
 
 #[test]
-fn a_module_has_1312_bytes_aligned_to_4() {
-    assert_eq!(size_of::<Module>(), 1312);
+fn a_module_has_1496_bytes_aligned_to_4() {
+    assert_eq!(size_of::<Module>(), 1496);
     assert_eq!(size_of::<Copied>(), size_of::<Module>());
     assert_eq!(align_of::<Copied>(), align_of::<Module>());
 }
@@ -120,6 +153,14 @@ fn the_library_uses_the_memory_from_its_first_field_to_its_last() {
     module.write(0x100, &[0x80]);
     let Errors { act, his } = look(&module).channels[15].errors;
     assert_eq!((act, his), (1, 1), "PrgError: an input has no OutFlag");
+    module.write(0x130, &1.5_f32.to_be_bytes());
+    module.write(0x13B, &1.0_f32.to_be_bytes());
+    let mut table = [0; 80];
+    table[76..].copy_from_slice(&7.0_f32.to_be_bytes());
+    module.write(0x13D, &table);
+    let data = &look(&module).data_channel;
+    assert_eq!((data.reals.a, data.kept.a, data.timers.b), (1.5, 1.5, 256));
+    assert_eq!((data.table1.pairs[9].y, data.table2.pairs[9].y), (0.0, 7.0));
 }
 
 #[test]
@@ -135,18 +176,22 @@ fn no_call_writes_outside_the_module() {
         module: Module::powered_up(&[]).0,
         after: [0xA5A5_A5A5; 64],
     };
-    let mut image = [0; 717];
+    let mut image = [0; 886];
     guarded.module.store(&mut image);
     guarded.module.power_up(&image);
-    for swno in 0..0x130 {
-        guarded.module.read(swno, &mut [0; 12]);
+    for swno in 0..0x150 {
+        guarded.module.read(swno, &mut [0; 80]);
         guarded.module.write(swno, &[0; 4]);
     }
+    guarded.module.write(0x0D, &[1]);
+    guarded.module.write(0x13C, &[0; 80]);
+    guarded.module.write(0x13D, &[0; 80]);
     for channel in 0..18 {
         guarded.module.level(channel, true);
         guarded.module.current(channel, 3.0);
         guarded.module.tick();
         guarded.module.output(channel);
+        guarded.module.look_up(channel, 1.0);
     }
     assert_eq!(guarded.before, [0xA5A5_A5A5; 64]);
     assert_eq!(guarded.after, [0xA5A5_A5A5; 64]);

@@ -1,8 +1,9 @@
 //! What the tests share: everything that a box shows of itself.
 
+use pd3120::table::LENGTH;
 use pd3120::{Answer, Error, Pd3120, IMAGE_LENGTH};
 
-type Read = (Result<Answer, Error>, [u8; 12]);
+type Read = (Result<Answer, Error>, [u8; LENGTH]);
 
 #[derive(Debug, PartialEq)]
 pub struct Shown {
@@ -17,13 +18,13 @@ pub fn shown(module: &Pd3120) -> Shown {
     let mut copy = module.clone();
     Shown {
         image: module.image(),
-        registers: (0..=0x120).map(|swno| read(&mut copy, swno)).collect(),
+        registers: (0..=0x140).map(|swno| read(&mut copy, swno)).collect(),
         outputs: (0..=17).map(|channel| module.output(channel)).collect(),
     }
 }
 
 fn read(module: &mut Pd3120, swno: u16) -> Read {
-    let mut buffer = [0xA5; 12];
+    let mut buffer = [0xA5; LENGTH];
     let answer = module.read(swno, &mut buffer);
     (answer, buffer)
 }

@@ -1,32 +1,28 @@
 -- Questions and their answers. Assumes nothing.
-use mathlib.Core.Path.{_≡_, refl, sym, _∙_}
+use mathlib.Core.Path.{_≡_, refl, sym}
 use mathlib.Core.Bool.{Bool, true, false, cond, false≢true}
 use mathlib.Core.List.{List}
 use Prim.Native.Nat.{ℕ}
-use lib.ListN.{length}
-use borrow.Author.Tests.{eqb-true}
 use Rattle.model.specs.declared.Refusal.{Refusal}
 use Rattle.model.specs.declared.Reply.{Reply}
 use Rattle.model.specs.declared.Reply.the-variants.{Done, Refused}
-use Rattle.model.specs.Image.{imageSize, sizeRight, decode, poweredUp, zeroSetup}
+use Rattle.model.specs.Image.{sizeRight, decode}
+use Rattle.model.specs.Restored.{poweredUp, zeroSetup}
 use Rattle.model.specs.Questions.{powerUpReply}
 use Rattle.model.specs.Calls.{poweredUpAs}
 use Rattle.model.specs.Questions.{accepted}
-use Rattle.image.proofs.Laws.Sections.{one-length}
-
--- an image of the right size is as long as what is stored
-pub size-long : (img : List ℕ) → sizeRight img ≡ true → length img ≡ imageSize
-size-long img e = eqb-true (length img) imageSize (one-length img ∙ e)
+use Rattle.image.specs.Lengths.{KnownLength}
+use Rattle.image.proofs.Laws.Sections.{sized}
 
 -- what is done passed its first question
 passed : (b : Bool) (x : Reply) (r : Refusal) → accepted (cond b x (Refused r)) ≡ true → b ≡ true
 passed true x r e = refl
 passed false x r e = e
 
--- so an accepted image has them too
-pub done-long : (img : List ℕ) → accepted (powerUpReply img) ≡ true → length img ≡ imageSize
+-- so an accepted image has a known length
+pub done-sized : (img : List ℕ) → accepted (powerUpReply img) ≡ true → KnownLength img
 unfolding powerUpReply
-done-long img e = size-long img (passed (sizeRight img) _ _ e)
+done-sized img e = sized img (passed (sizeRight img) _ _ e)
 
 -- the box by whether power-up is done
 pub started-done : (r : Reply) (img : List ℕ) → accepted r ≡ true → poweredUp (decode img) ≡ poweredUpAs r img

@@ -4,7 +4,8 @@ use mathlib.Core.Path.{sym, ap, _∙_}
 use Rattle.model.specs.Questions.{powerUpReply}
 use Rattle.model.specs.Calls.{powerUp}
 use Rattle.model.specs.Questions.{accepted}
-use Rattle.image.proofs.Laws.Tests.{done-long, started-done, started-refused}
+use Rattle.image.proofs.Laws.Sections.{filled-sized}
+use Rattle.image.proofs.Laws.Tests.{done-sized, started-done, started-refused}
 use Rattle.image.proofs.power_up.Statement.{statement}
 use Rattle.image.proofs.power_up.Tie as tie
 
@@ -15,7 +16,7 @@ is-done-requires : tie.Need-is-done-requires
 is-done-requires c κs = search needs
 
 box-of-requires : tie.Need-box-of-requires
-box-of-requires c κs = done-long (c .before .before .before .before .args .img .now)
+box-of-requires c κs = done-sized (c .before .before .before .before .args .img .now)
     (sym (c .before .is-done .ensures ∙ ap accepted (c .before .before .power-up-reply .ensures)) ∙ c .if1 .taken)
 
 returns : tie.Need-returns
@@ -30,7 +31,7 @@ slice-aggregate-box-of : tie.Need-slice-aggregate-box-of
 slice-aggregate-box-of c = search needs
 
 box-of-requires-2 : tie.Need-box-of-requires-2
-box-of-requires-2 c κs = search needs
+box-of-requires-2 c κs = filled-sized _
 
 returns-2 : tie.Need-returns-2
 unfolding powerUp

@@ -3,7 +3,7 @@ use borrow.Author.Needs.{needs}
 use mathlib.Core.Path.{sym, _∙_}
 use borrow.Author.Tests.{not-true, not-false}
 use Rattle.model.specs.Questions.{powerUpReply}
-use Rattle.image.proofs.Laws.Tests.{size-long}
+use Rattle.image.proofs.Laws.Sections.{sized}
 use Rattle.image.proofs.power_up_reply.Statement.{statement}
 use Rattle.image.proofs.power_up_reply.Tie as tie
 
@@ -15,14 +15,14 @@ unfolding powerUpReply
 returns c = simp (sym (c .before .size-right .ensures) ∙ not-true _ (c .if1 .taken))
 
 counts-right-requires : tie.Need-counts-right-requires
-counts-right-requires c κs = size-long (c .before .before .before .args .img .now) (sym (c .before .size-right .ensures) ∙ not-false _ (c .if1 .left))
+counts-right-requires c κs = sized (c .before .before .before .args .img .now) (sym (c .before .size-right .ensures) ∙ not-false _ (c .if1 .left))
 
 sum-right-requires : tie.Need-sum-right-requires
-sum-right-requires c κs = size-long (c .before .before .before .before .args .img .now)
+sum-right-requires c κs = sized (c .before .before .before .before .args .img .now)
     (sym (c .before .before .size-right .ensures) ∙ not-false _ (c .before .if1 .left))
 
 values-allowed-requires : tie.Need-values-allowed-requires
-values-allowed-requires c κs = size-long (c .before .before .before .before .before .args .img .now)
+values-allowed-requires c κs = sized (c .before .before .before .before .before .args .img .now)
     (sym (c .before .before .before .size-right .ensures) ∙ not-false _ (c .before .before .if1 .left))
 
 in-order-requires : tie.Need-in-order-requires

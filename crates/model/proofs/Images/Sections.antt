@@ -3,13 +3,13 @@
 use mathlib.Core.Path.{_≡_, refl, sym, ap, ap₂, _∙_, subst}
 use mathlib.Core.Bool.{Bool, true, false, cond}
 use mathlib.Core.List.{List, [], _∷_, _++_, append-assoc}
-use Prim.Native.Nat.{ℕ, _+_, _<_, _≤_}
+use Prim.Native.Nat.{ℕ, zero, suc, _+_, _<_, _≤_}
 use native.Mathlib.Omega.{arith}
 use lib.Dec.{T, eqb, eqb→eq, eqb-refl}
 use lib.ListN.{length, take, drop, getD, length-append, length-drop}
 use lib.Pow.{areBytes}
 use lib.Seq.{take-add, take-at, drop-at, drop-drop}
-use Rattle.model.specs.Image.{Section, part, framed, sumPlace, split, countsMatch, allAllowed, lengthOf, versionAmong}
+use Rattle.model.specs.Image.{Section, part, framed, sumPlace, split, countsMatch, allAllowed, standing, lengthOf, versionAmong}
 use Rattle.model.proofs.Images.Tests.{both, join}
 use Rattle.model.proofs.Images.Parts.{bytes-part, bytes-drop, part-length, part-more, one-byte, beside}
 
@@ -85,6 +85,24 @@ framed-split (r ∷ rs) l h c =
     ∙ sym (append-assoc (part 0 1 l) (part 1 n l) _)
     ∙ ap (λ (x : List ℕ). x ++ take (sumPlace rs) (drop (1 + n) l)) (part-more 0 1 n l)
     ∙ sym (take-add (1 + n) (sumPlace rs) l)
+
+-- ---- sections that an image is older than
+pub fit-more : (n : ℕ) (rs : List Section) (cs : List (List ℕ)) → Fit (take n rs) cs → Fit rs (standing rs) → Fit rs (cs ++ standing (drop n rs))
+fit-more zero rs [] f g = g
+fit-more zero rs (c ∷ cs) f g = absurd f
+fit-more (suc n) [] [] f g = tt
+fit-more (suc n) [] (c ∷ cs) f g = absurd f
+fit-more (suc n) (r ∷ rs) [] f g = absurd f
+fit-more (suc n) (r ∷ rs) (c ∷ cs) f g = (f .0, fit-more n rs cs (f .1) (g .1))
+
+pub fine-more : (n : ℕ) (rs : List Section) (cs : List (List ℕ)) → Fit (take n rs) cs → Fine (take n rs) cs → Fine rs (standing rs)
+    → Fine rs (cs ++ standing (drop n rs))
+fine-more zero rs [] t f g = g
+fine-more zero rs (c ∷ cs) t f g = absurd t
+fine-more (suc n) [] [] t f g = tt
+fine-more (suc n) [] (c ∷ cs) t f g = absurd t
+fine-more (suc n) (r ∷ rs) [] t f g = absurd f
+fine-more (suc n) (r ∷ rs) (c ∷ cs) t f g = (f .0, (f .1 .0, fine-more n rs cs (t .1) (f .1 .1) (g .1 .1)))
 
 -- ---- the version of an image has its length
 pub version-length : (vs : List ℕ) (n : ℕ) → 0 < versionAmong vs n → n ≡ lengthOf (versionAmong vs n)

@@ -197,6 +197,7 @@ module _ (c : ℕ) (ns : List ℕ) where
           channels-each _ (λ i x y h. near-by (Writes.commonWritten r bs i) (common-in r bs i) (in-common r bs i) (λ p. held-common r bs i) h)
               (a .1),
         ))
+        (λ e r q. a)
         (λ l₁ l₂ r q. (
           a .0,
           rw (← a .0)
@@ -208,6 +209,7 @@ module _ (c : ℕ) (ns : List ℕ) where
     unfolding Reads.afterRead
     read-alike n =
         place-cases (λ p. Alike (Reads.afterRead p m) (Reads.afterRead p m′)) n a
+        (λ e r q. a)
         (λ e r q. a)
         (λ e r q. a)
         (λ l₁ l₂ r q. (a .0, channels-set (n / 16 - 1) _ _ (λ l. near-kept (Reads.digitalRead r) (in-read r) (a .1 .near _ l)) (a .1)))
@@ -265,8 +267,8 @@ module _ (c : ℕ) (ns : List ℕ) where
     pub value-alike : c ≤ 16 → (n : ℕ) → n / 16 ≡ c → Reads.bytesRead (place n) m ≡ Reads.bytesRead (place n) m′
     unfolding Reads.bytesRead
     value-alike c≤16 n e =
-        place-cases (λ p. Reads.bytesRead p m ≡ Reads.bytesRead p m′) n refl (λ z r q. absurd (omega arith)) (λ z r q. absurd (omega arith)) λ l₁ l₂ r q.
-        rw e (bytes-alike r (a .1 .near (c - 1) (omega arith)))
+        place-cases (λ p. Reads.bytesRead p m ≡ Reads.bytesRead p m′) n refl (λ z r q. absurd (omega arith)) (λ z r q. absurd (omega arith))
+        (λ z r q. absurd (omega arith)) λ l₁ l₂ r q. rw e (bytes-alike r (a .1 .near (c - 1) (omega arith)))
 
     -- a tick, where WDTimer is the same
     feedback-alike : (ch : Channel) → Held (inputs ch) → Tick.feedbackWrong (levels m) ch ≡ Tick.feedbackWrong (levels m′) ch
@@ -307,11 +309,11 @@ module _ (c : ℕ) (ns : List ℕ) where
     written-stranger n bs e =
         let h = stranger-facts c ns (n / 16) e in
         place-cases (λ p. Alike (Writes.written p bs m) m′) n a (λ z r q. absurd (omega (arith, h .low))) (λ z r q. absurd (omega (arith, h .high)))
-        (λ l₁ l₂ r q. put-stranger (n / 16) _ e)
+        (λ z r q. absurd (omega (arith, h .high))) (λ l₁ l₂ r q. put-stranger (n / 16) _ e)
 
     pub read-stranger : (n : ℕ) → stranger c ns (n / 16) ≡ true → Alike (Reads.afterRead (place n) m) m′
     unfolding Reads.afterRead
     read-stranger n e =
         let h = stranger-facts c ns (n / 16) e in
         place-cases (λ p. Alike (Reads.afterRead p m) m′) n a (λ z r q. absurd (omega (arith, h .low))) (λ z r q. absurd (omega (arith, h .high)))
-        (λ l₁ l₂ r q. put-stranger (n / 16) _ e)
+        (λ z r q. absurd (omega (arith, h .high))) (λ l₁ l₂ r q. put-stranger (n / 16) _ e)

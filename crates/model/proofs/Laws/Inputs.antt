@@ -27,6 +27,7 @@ use Rattle.model.specs.Settings.{bit, functions}
 use Rattle.model.specs.Channel as Rules
 use Rattle.model.specs.Tick as Tick
 use Rattle.model.specs.Image as Image
+use Rattle.model.specs.Restored as Restored
 use Rattle.model.specs.Reads as Reads
 use Rattle.model.specs.Writes as Writes
 use Rattle.model.proofs.Laws.Tests.{either}
@@ -277,7 +278,7 @@ every-in WriteEnable n = n
 every-in CommonError n = n
 
 pub in-every : (r : ServiceRegister) (ch : Channel) → inputs (Writes.everyWritten r ch) ≡ every-in r (inputs ch)
-unfolding every-in Writes.everyWritten Image.restored
+unfolding every-in Writes.everyWritten Restored.restored
 in-every Highest ch = refl
 in-every Reset ch = refl
 in-every FreeRunTimer ch = refl

@@ -9,7 +9,7 @@ use Rattle.model.specs.Calls.{level, run, powerUp, powerUpAnswer, storeA
 use Rattle.model.specs.Worked.{one, two, four, words, Case, calm, past, answering, _then_, writes, takes, ticks, callIn, boxOf}
 use Rattle.model.specs.Worked.{noEntry, wireBox}
 
--- ---- the image of `wireBox`, by its sections
+-- ---- the image of `wireBox`, by its sections, as the box before document 02 stored it
 -- an entry: ChConfig, FBPreset, OutPreset, MinCurrent, MaxCurrent, and the other registers 0
 abbrev pub bytesWith : ℕ → ℕ → ℕ → List ℕ
 bytesWith g fb out = four g ++ (four fb ++ (four out ++ replicate 32 0))
@@ -32,6 +32,10 @@ wireImage =
     ∷ bytesWith 0x0000_0000 0 0 ∷ bytesWith 0x0000_0000 0 0 ∷ bytesWith 0x0000_0000 0 0 ∷ bytesWith 0x0000_0000 0 0
     ∷ bytesWith 0x0000_0000 0 0 ∷ bytesWith 0x0000_0000 0 0 ∷ bytesWith 0x0010_1001 80 0
     ∷ one 1 ∷ two 0x1188 ∷ [])
+
+-- Change 1, 10: and as it is stored now, with zeros in the data channel; its sum has one count more
+abbrev pub storedImage : List ℕ
+storedImage = take 714 wireImage ++ (one 1 ++ (replicate 168 0 ++ (one 1 ++ two 0x1189)))
 
 -- ---- the image with these bytes at a place, and its sum anew
 abbrev pub sumOf : List ℕ → ℕ
@@ -97,7 +101,7 @@ fullImage = together (one 1 ∷ four 0x0010_0000 ∷ four 0 ∷ one 16 ∷ toget
 
 -- ---- Setup image 4: what is stored of channel k after calls
 abbrev pub storedEntry : ℕ → List Case → List ℕ
-storedEntry k cs = take 44 (drop (10 + (k - 1) * 44) (storeAnswer (run wireBox (map callIn cs)) (replicate 717 0) .buffer))
+storedEntry k cs = take 44 (drop (10 + (k - 1) * 44) (storeAnswer (run wireBox (map callIn cs)) (replicate 886 0) .buffer))
 
 -- writes of every kept register of channel 1 with WriteEnable
 abbrev pub enabledWrites : List Case
@@ -126,7 +130,8 @@ pub record Stores : Type 0 where
   -- Setup image 1 and 2: power-up of these bytes, and storing them in a longer buffer
   pub accepted : powerUpAnswer wireImage .number ≡ 0
   pub restored : powerUp wireImage ≡ wireBox
-  pub stored : storeAnswer wireBox (replicate 720 0xA5) ≡ answering 0 717 (wireImage ++ replicate 3 0xA5) calm
+  pub stored : storeAnswer wireBox (replicate 889 0xA5) ≡ answering 0 886 (storedImage ++ replicate 3 0xA5) calm
+  pub restored-again : powerUp storedImage ≡ wireBox
   -- Questions 10 to 13: a byte too many, wrong sums, and what an image and an entry may hold
   pub longer : powerUpAnswer (wireImage ++ one 0) .number ≡ 10
   pub low-sum : powerUpAnswer (withBytes 716 (one 0x89)) .number ≡ 12

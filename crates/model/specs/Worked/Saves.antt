@@ -7,7 +7,8 @@ use lib.IntN.{pos}
 use lib.ListN.{replicate}
 use Rattle.counts.specs.Counts.{timer}
 use Rattle.model.specs.declared.Module.{Module}
-use Rattle.model.specs.Image.{Entry, Setup, poweredUp}
+use Rattle.model.specs.Image.{Entry, Setup}
+use Rattle.model.specs.Restored.{poweredUp}
 use Rattle.model.specs.State.{sharedOf, saveTicks}
 use Rattle.model.specs.Tick.{tickShared}
 use Rattle.model.specs.declared.Shared.{Shared}
@@ -42,7 +43,12 @@ saveBox =
 abbrev pub lateBox : Module
 lateBox =
     let m = saveBox in
-    record { shared = sharedOf (timer (pos 9215984)) (configOf 0x0010_0000) (timer (pos 0)) false 1151998; service = m .service; channels = m .channels }
+    record {
+      shared = sharedOf (timer (pos 9215984)) (configOf 0x0010_0000) (timer (pos 0)) false 1151998;
+      service = m .service;
+      channels = m .channels;
+      «data_channel» = m .«data_channel»;
+    }
 
 -- the shared record of a box so many ticks after a save
 abbrev pub afterTicks : ℕ → Shared

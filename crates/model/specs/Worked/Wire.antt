@@ -9,7 +9,7 @@ pub record Wire : Type 0 where
   pub power-up : Plays wireBox
       (reads 0x08 (four 0x3F81_0000) past then reads 0x10 (one 0x00) past then wordsFrom 0x11 1 past (0 ∷ 0x0102_0304 ∷ 0 ∷ 0x47A0_B0C0 ∷ 0x5152_5354
       ∷ 0 ∷ 0x44A0_C0E0 ∷ 0x4510_A0B0 ∷ 0x0010_0203 ∷ 0x3E00_0000 ∷ 0x3F00_0000 ∷ []) then reads 0x1C (words (0xC1C2_C3C4 ∷ 0xC5C6_C7C8 ∷ [])) past
-      then reads 0x1D (four 0xD1D2_D3D4) past then reads 0x1F (four 0) past then reads 0x00 (two 0x011F) past then reads 0x03 (one 0x00) past
+      then reads 0x1D (four 0xD1D2_D3D4) past then reads 0x1F (four 0) past then reads 0x00 (two 0x013F) past then reads 0x03 (one 0x00) past
       then wordsFrom 0x07 1 past (0 ∷ 0x3F81_0000 ∷ 0x8100_8283 ∷ 0x3F81_0000 ∷ []) then reads 0x0D (one 0x00) past then reads 0x110 (two 0) past
       then reads 0x111 (two 0) past then reads 0x112 (four 0) past then reads 0x11F (four 0) past
       then reads 0x0F (words (0x8000_0000 ∷ 0 ∷ 0 ∷ [])) past then reads 0x0F (words (0 ∷ 0 ∷ 0 ∷ [])) calm)
@@ -75,8 +75,8 @@ pub record Wire : Type 0 where
   pub refusals : Plays wireBox
       (refusedRead 5 0x0F 11 past then reads 0x10 (one 0x00) past then reads 0x0F (words (0x8000_0000 ∷ 0 ∷ 0 ∷ [])) past
       then reads 0x0F (words (0 ∷ 0 ∷ 0 ∷ [])) calm then refusedRead 5 0x1C 7 calm then reads 0x1C (words (0xC1C2_C3C4 ∷ 0xC5C6_C7C8 ∷ [])) calm
-      then refusedRead 5 0x10 0 calm then refusedRead 2 0x1E 0 calm then refusedRead 1 0x120 0 calm then refusedRead 5 0x112 3 calm
-      then refusedWrite 1 0x120 (one 0x00) calm then refusedWrite 2 0x0E (one 0x00) calm then refusedWrite 2 0x113 (two 0) calm
+      then refusedRead 5 0x10 0 calm then refusedRead 2 0x1E 0 calm then refusedRead 1 0x140 0 calm then refusedRead 5 0x112 3 calm
+      then refusedWrite 1 0x140 (one 0x00) calm then refusedWrite 2 0x0E (one 0x00) calm then refusedWrite 2 0x113 (two 0) calm
       then refusedWrite 3 0x1F (one 0x00) calm then refusedWrite 3 0x00 (two 0) calm then refusedWrite 3 0x07 (four 0) calm
       then refusedWrite 3 0x112 (four 0) calm then refusedWrite 3 0x11F ([]) calm then refusedWrite 4 0x19 (0x00 ∷ 0x00 ∷ 0x00 ∷ []) calm
       then refusedWrite 4 0x19 (0x00 ∷ 0x00 ∷ 0x00 ∷ 0x00 ∷ 0x00 ∷ []) calm then refusedWrite 6 0x19 (four 0x0077_0000) calm
@@ -89,6 +89,6 @@ pub record Wire : Type 0 where
       then refusedWrite 7 0x0F (words (0 ∷ 0x0000_0100 ∷ 0 ∷ [])) calm then refusedWrite 7 0x0F (words (0 ∷ 0x0000_0001 ∷ 0 ∷ [])) calm
       then refusedWrite 7 0x0F (words (0 ∷ 0 ∷ 0x0100_0000 ∷ [])) calm then refusedWrite 7 0x0F (words (0 ∷ 0 ∷ 0x0001_0000 ∷ [])) calm
       then refusedWrite 7 0x0F (words (0 ∷ 0 ∷ 0x0000_0100 ∷ [])) calm then refusedWrite 7 0x0F (words (0 ∷ 0 ∷ 0x0000_0001 ∷ [])) calm
-      then takes tick then reads 0x08 (four 0x3F7A_0000) calm then takes tick then refusedWrite 1 0x120 (one 0x00) calm
-      then reads 0x08 (four 0x3F81_0000) calm then takes tick then refusedRead 1 0x120 0 calm then reads 0x08 (four 0x3F81_0000) calm
+      then takes tick then reads 0x08 (four 0x3F7A_0000) calm then takes tick then refusedWrite 1 0x140 (one 0x00) calm
+      then reads 0x08 (four 0x3F81_0000) calm then takes tick then refusedRead 1 0x140 0 calm then reads 0x08 (four 0x3F81_0000) calm
       then reads 0x10 (one 0x00) calm)

@@ -19,7 +19,7 @@ use Rattle.registers.specs.Places.{slotOf}
 use Rattle.questions.proofs.Laws.Answers.{yes}
 use Rattle.pd3120.specs.declared.Answered.{Answered}
 use Rattle.pd3120.specs.declared.Sampled.{Sampled}
-use Rattle.pd3120.specs.Answers.{stepOf, sampleOf}
+use Rattle.pd3120.specs.Answers.{stepOf, sampleOf, plainOf}
 
 -- an accepted sample is for channel 1 to 16
 pub level-digital : (k n : ℕ) → levelReply k ≡ Done n → isDigital k ≡ true
@@ -32,7 +32,7 @@ current-digital k x n e = yes (isDigital k) _ _ n e .0
 
 -- ---- the box m with a channel put back at its place, and the answer, are the model's; q is the model's reply, and r the code's
 abbrev pub putBack : Reply → Channel → ℕ → Module → Stepped
-putBack r left k m = record { answer = answerOf r [] false false; box = withChannels (set (m .channels) (slotOf k) left) m }
+putBack r left k m = record { answer = answerOf r [] false false 0; box = withChannels (set (m .channels) (slotOf k) left) m }
 
 -- a sample that is done leaves what f makes of the channel
 pub done : (r q : Reply) (n k : ℕ) (f : Channel → Channel) (ch left : Channel) → r ≡ q → r ≡ Done n → ((n : ℕ) → q ≡ Done n → isDigital k ≡ true) → left ≡ f ch
@@ -49,5 +49,5 @@ refused r q w k ch x e d m p = rw (← e, d, ← p, set-getD (m .channels) (slot
 
 -- a sample or a tick among all calls answers no bits
 pub plain-answer : (x : Stepped) (s : Sampled) (a : Answered) → sampleOf s ≡ x
-    → a ≡ record { after = s .after; reply = s .reply; «data_error» = false; «general_error» = false } → stepOf a [] ≡ x
+    → a ≡ plainOf s → stepOf a [] ≡ x
 plain-answer x s a e f = ap (λ (r : Answered). stepOf r []) f ∙ e

@@ -18,8 +18,11 @@ returns c =
     let s = c .before .before .before .before .before .before .args in
     let k = c .before .before .before .before .clear in
     let b = c .before .before .before .begin in
-    let p = c .preset-watchdog in
-    (b .ensures .0, λ m has. write-by m (s .s) (s .v) (s .ch) (s .swno) (s .bytes .now) has (k .result) (k .ensures) (b .result) (b .ensures) (p .result) (p .ensures))
+    let p = c .preset-watchdog in (
+      b .ensures .0,
+      b .ensures .1,
+      λ m has. write-by m (s .s) (s .v) (s .ch) (s .swno) (s .bytes .now) has (k .result) (k .ensures) (b .result) (b .ensures) (p .result) (p .ensures),
+    )
 
 pub begin-write-spec : {M : Type 1} → statement M
 begin-write-spec =

@@ -36,6 +36,12 @@ current-requires c κs = search needs
 plain-requires-2 : tie.Need-plain-requires-2
 plain-requires-2 c κs = search needs
 
+enum-known-c-5 : tie.Need-enum-known-c-5
+enum-known-c-5 c = search needs
+
+looked-up-requires : tie.Need-looked-up-requires
+looked-up-requires c κs = search needs
+
 enum-told : tie.Need-enum-told
 enum-told c = search needs
 
@@ -69,7 +75,10 @@ returns-4 c = rw (c .before .before .before .c4 .given .1) (
 )
 
 returns-5 : tie.Need-returns-5
-returns-5 c = rw (c .before .before .enum-told .given .1) (plain-answer _ _ (c .plain3 .result) (c .before .tick .ensures) (c .plain3 .ensures), refl)
+returns-5 c = rw (c .before .before .c5 .given .1) (c .looked-up .ensures, refl)
+
+returns-6 : tie.Need-returns-6
+returns-6 c = rw (c .before .before .enum-told .given .1) (plain-answer _ _ (c .plain3 .result) (c .before .tick .ensures) (c .plain3 .ensures), refl)
 
 pub call-spec : {M : Type 1} → statement M
 call-spec =
@@ -85,6 +94,8 @@ call-spec =
     enum-known-c-4
     current-requires
     plain-requires-2
+    enum-known-c-5
+    looked-up-requires
     enum-told
     tick-requires
     plain-requires-3
@@ -93,4 +104,5 @@ call-spec =
     returns-2
     returns-3
     returns-4
-    returns-5)
+    returns-5
+    returns-6)

@@ -6,7 +6,7 @@ use mathlib.Core.List.{[]}
 use Rattle.model.specs.declared.Module.{Module}
 use Rattle.model.specs.declared.Reply.{Reply}
 use Rattle.model.specs.Questions.{numberOf}
-use Rattle.model.specs.Calls.{answerOf, powerUpAnswer}
+use Rattle.model.specs.Calls.{answerOf, powerUp, powerUpAnswer}
 use Rattle.model.specs.Image.{setupOf, encode}
 use Rattle.model.specs.TwoLists.{LearnsNothing}
 use Rattle.model.proofs.TwoLists.{two-lists}
@@ -24,12 +24,13 @@ returns c =
     let img = c .before .before .before .args .img .now in
     let e = c .before .power-up .ensures in
     let number = ap numberOf (e .1) in
+    let bytes = are-bytes img (λ i. c .before .before .shared-slice-known .given i .fits) in
     record {
-      answer-is = ap (λ (q : Reply). answerOf q [] false false) (e .1);
+      answer-is = ap (λ (q : Reply). answerOf q [] false false 0) (e .1);
       box-is = e .0;
       learns-nothing = λ ok. subst LearnsNothing (sym (e .0)) (two-lists img (sym number ∙ ok));
-      stored-again = λ ok. ap (λ (m : Module). encode (setupOf m)) (e .0)
-          ∙ images .again img (are-bytes img (λ i. c .before .before .shared-slice-known .given i .fits)) (sym number ∙ ok);
+      stored-again = λ ok long. ap (λ (m : Module). encode (setupOf m)) (e .0) ∙ images .again img bytes long (sym number ∙ ok);
+      renewed = λ ok. ap (λ (m : Module). powerUp (encode (setupOf m))) (e .0) ∙ images .renewed img bytes (sym number ∙ ok) .1 ∙ sym (e .0);
     }
 
 pub power-up-spec : {M : Type 1} → statement M

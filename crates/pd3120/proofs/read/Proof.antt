@@ -3,6 +3,7 @@ use mathlib.Core.Path.{_≡_, refl, sym, ap}
 use Prim.Native.Nat.{ℕ}
 use lib.ListN.{length, length-map, getD}
 use Rattle.model.specs.State.{nothing}
+use Rattle.pd3120.specs.Parts.{Has}
 use borrow.Author.Needs.{needs}
 use Rattle.pd3120.proofs.read.Statement.{statement}
 use Rattle.pd3120.proofs.read.Tie as tie
@@ -33,12 +34,13 @@ same-length c = search needs
 
 returns : tie.Need-returns
 returns c =
-    let start = c .before .before .before .before .before .before .before .before .before .before .before .before .before in
+    let start = c .before .before .before .before .before .before .before .before .before .before .before .before .before .before in
     let m = start .args .m in
     let l : length (m .channels) ≡ 16 = rw length-map at (start .good .0 .1 .1 .1 .1 .0 .1 .0 .1) in
-    let at = c .before .before .before .before .before .before .before .before .before .before .before .wire-slot .ensures .0 in
+    let at = c .before .before .before .before .before .before .before .before .before .before .before .before .wire-slot .ensures .0 in
     let own = ap (λ (i : ℕ). getD (m .channels) i nothing) (sym at) in
-    rw at (c .before .before .before .before .read-changes .ensures .0 m (record { shared-is = refl; service-is = refl; sixteen = l; channel-is = own }) (c .before .before .before .before .before .before .of-channels .ensures))
+    let has : Has (m .shared) (m .service) _ _ m = record { shared-is = refl; service-is = refl; sixteen = l; channel-is = own } in
+    rw at (c .before .before .before .before .read-changes .ensures .0 m has refl (c .before .before .before .before .before .before .of-channels .ensures))
 
 pub read-spec : {M : Type 1} → statement M
 read-spec =

@@ -28,7 +28,8 @@ returns c =
     let k = c .before .before .before .before .before .before .before .before .before .before .before .clear in
     let r = c .before .before .before .before .before .before .before .before .before .read in
     let p = c .before .before .before .before .preset-watchdog in (
-      λ m has ws. read-by m (s .s) (s .v) (s .ch) (s .w) (s .swno) (s .buf .now) has ws (k .result) (k .ensures) (r .result) (r .ensures .0) (p .result) (p .ensures)
+      λ m has xs ws. read-by m (s .s) (s .v) (s .ch) (s .d) (s .w) (s .swno) (s .buf .now) has xs ws (k .result) (k .ensures) (r .result) (r .ensures .0)
+          (p .result) (p .ensures)
           _ (r .ensures .1 .0) _ _ (c .before .before .data-error .ensures) (c .general-error .ensures),
       r .ensures .1 .1,
     )

@@ -29,7 +29,7 @@ returns c =
     let w = c .before .before .before .before .before .write in
     let after = w .result .after in
     let bits = c .before .error-bits .ensures in
-    write-answer m (s .swno) (s .bytes .now) (boxOf (m .shared) (k .result) (m .channels)) (w .result) _ _ _
+    write-answer m (s .swno) (s .bytes .now) (boxOf (m .shared) (k .result) (m .«data_channel») (m .channels)) (w .result) _ _ _
     (cleared-box m (k .result) (k .ensures m refl)) (w .ensures) (rw (c .preset-watchdog .ensures after refl refl))
     (ap (λ (b : WireBits). b .«data_error») bits) (ap (λ (b : WireBits). b .«general_error») bits)
 

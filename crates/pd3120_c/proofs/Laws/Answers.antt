@@ -5,17 +5,18 @@ use mathlib.Core.List.{List}
 use Prim.Native.Nat.{ℕ, _/_}
 use lib.ListN.{getD, set}
 use Rattle.model.specs.declared.Channel.{Channel}
+use Rattle.model.specs.declared.DataChannel.{DataChannel}
 use Rattle.model.specs.declared.Module.{Module}
 use Rattle.model.specs.declared.Service.{Service}
 use Rattle.model.specs.declared.Shared.{Shared}
-use Rattle.model.specs.State.{nothing, withChannels}
+use Rattle.model.specs.State.{dataChannel, nothing, withChannels}
 use Rattle.model.specs.Errors.{dataError, generalError}
 use Rattle.model.specs.Questions.{numberOf, lengthOf}
 use Rattle.model.specs.Calls.{Request, Stepped, step}
 use Rattle.errors.specs.declared.words.Words.{Words}
 use Rattle.registers.specs.Places.{slotOf}
 use Rattle.writes.specs.declared.Begun.{Begun}
-use Rattle.writes.specs.Begun.{wholeOf}
+use Rattle.writes.specs.Begun.{dataBy, wholeOf}
 use Rattle.pd3120.specs.declared.Changed.{Changed}
 use Rattle.pd3120.specs.declared.samples.Taken.{Taken}
 use Rattle.pd3120.specs.Parts.{ReadBy, WriteBy, SampleBy}
@@ -23,11 +24,11 @@ use Rattle.pd3120_c.specs.declared.ChannelDone.{ChannelDone}
 use Rattle.pd3120_c.specs.Codes.{packed, replyCode, answerCode, Left, SampleLeft, ReadLeft, WriteLeft}
 
 -- the parts of a read put back
-pub read-left : (s : Shared) (v : Service) (ch : Channel) (w : Words) (n : ℕ) (lent : List ℕ) (c : Changed) (lent′ : List ℕ) (code : ℕ)
-    → ReadBy s v ch w n lent c lent′ → code ≡ replyCode (c .reply) (c .«data_error») (c .«general_error»)
-    → ReadLeft s v ch w n lent (record { service = c .service; channel = c .channel; code = code }) lent′
-read-left s v ch w n lent c lent′ code h f = λ m has ws.
-    let e = h m has ws in
+pub read-left : (s : Shared) (v : Service) (ch : Channel) (d : DataChannel) (w : Words) (n : ℕ) (lent : List ℕ) (c : Changed) (lent′ : List ℕ) (code : ℕ)
+    → ReadBy s v ch d w n lent c lent′ → code ≡ replyCode (c .reply) (c .«data_error») (c .«general_error»)
+    → ReadLeft s v ch d w n lent (record { service = c .service; channel = c .channel; code = code }) lent′
+read-left s v ch d w n lent c lent′ code h f = λ m has xs ws.
+    let e = h m has xs ws in
     ((ap (λ (x : Stepped). x .box) e, f ∙ ap (λ (x : Stepped). answerCode (x .answer)) e), ap (λ (x : Stepped). x .answer .buffer) e)
 
 -- the parts of a write, of any module
@@ -39,14 +40,16 @@ pub write-left : (s : Shared) (v : Service) (ch : Channel) (n : ℕ) (bs : List 
       channel = b .channel;
       count = b .count;
       number = number;
+      «of_data» = b .«of_data»;
       place = b .place;
       word = b .word;
     })
 write-left s v ch n bs b number h f l = (
   h .0,
+  h .1,
   λ m has.
-      let e = h .1 m has in
-      let after = wholeOf b (slotOf (n / 16)) m in (
+      let e = h .2 m has in
+      let after = wholeOf b (slotOf (n / 16)) (dataBy (m .shared) n bs (dataChannel m)) m in (
         ap (λ (x : Stepped). x .box) e,
         ap (λ (k : ℕ). packed k 0 (dataError after) (generalError after)) f
             ∙ ap (λ (k : ℕ). packed (numberOf (b .reply)) k (dataError after) (generalError after)) (sym l) ∙ ap (λ (x : Stepped). answerCode (x .answer)) e,

@@ -9,18 +9,21 @@ use lib.ListN.{replicate, length-replicate, getD-replicate}
 use Rattle.counts.specs.Counts.{timer}
 use Rattle.model.specs.declared.Channel.{Channel}
 use Rattle.model.specs.declared.Module.{Module}
+use Rattle.model.specs.declared.DataRegister.{DataRegister}
+use Rattle.model.specs.declared.DataRegister.the-variants.{RealA, RealB, TimerA, TimerB, LookUp1, LookUp2}
 use Rattle.model.specs.declared.Refusal.{Refusal}
 use Rattle.model.specs.declared.Reply.{Reply}
 use Rattle.model.specs.declared.Reply.the-variants.{Done, Refused}
 use Rattle.model.specs.declared.Service.{Service}
 use Rattle.model.specs.declared.Shared.{Shared}
-use Rattle.model.specs.State.{writeEnable, serviceOf, nothing}
-use Rattle.model.specs.Registers.{Place, place, size}
-use Rattle.model.specs.Questions.{Question, asked, lengthOf, readReply, writeReply, levelReply, currentReply, powerUpReply, storeReply}
-use Rattle.model.specs.Questions.{readQuestions, writeQuestions, levelQuestions, currentQuestions, powerUpQuestions, storeQuestions}
-use Rattle.model.specs.Image.{imageSize, noServiceBits}
-use Rattle.model.specs.Calls.{Request, read, write, level, current, tick, Answer, answerOf, Stepped, step, powerUpAnswer, storeAnswer}
-use Rattle.reads.proofs.Laws.Held.{fits}
+use Rattle.model.specs.State.{writeEnable, serviceOf, moduleOf, nothing}
+use Rattle.model.specs.Registers.{Place, service, digital, common, data-channel, unlisted, dataRow, place, size}
+use Rattle.model.specs.Questions.{Question, asked, lengthOf, readReply, writeReply, levelReply, currentReply, lookUpReply, powerUpReply, storeReply}
+use Rattle.model.specs.Questions.{readQuestions, writeQuestions, levelQuestions, currentQuestions, lookUpQuestions, powerUpQuestions, storeQuestions}
+use Rattle.model.specs.Image.{imageSize, keptFrom}
+use Rattle.model.specs.Restored.{noServiceBits, restoredData}
+use Rattle.model.specs.Calls.{Request, read, write, level, current, lookUp, tick, Answer, answerOf, Stepped, step, powerUpAnswer, storeAnswer}
+use Rattle.reads.proofs.Laws.Held.{service-fits, digital-fits, common-fits}
 use Rattle.pd3120.specs.declared.samples.Taken.{Taken}
 use Rattle.registers.specs.Places.{slotOf}
 use Rattle.registers.proofs.Laws.{slot-fits}
@@ -38,15 +41,28 @@ asked-length (q ∷ qs) n = answered (q .yes) (asked qs (Done n)) (q .refusal) n
 within : (n a : ℕ) → a ≤ n → n ≤ imageSize → a ≤ imageSize
 within n a h g = omega (arith, h, g)
 
+data-length : (r : DataRegister) → dataRow r .size ≤ imageSize
+data-length RealA = omega arith
+data-length RealB = omega arith
+data-length TimerA = omega arith
+data-length TimerB = omega arith
+data-length LookUp1 = omega arith
+data-length LookUp2 = omega arith
+
 register-length : (p : Place) → size p ≤ imageSize
-register-length p = let h = fits p in omega (arith, h)
+register-length (service r) = let h = service-fits r in omega (arith, h)
+register-length (digital k r) = let h = digital-fits r in omega (arith, h)
+register-length (common r) = let h = common-fits r in omega (arith, h)
+register-length (data-channel r) = data-length r
+register-length unlisted = omega arith
 
 pub step-length : (m : Module) (x : Request) → step m x .answer .length ≤ imageSize
-unfolding step readReply writeReply levelReply currentReply
+unfolding step readReply writeReply levelReply currentReply lookUpReply
 step-length m (read n lent) = let p = place n in within (size p) _ (asked-length (readQuestions n p lent) (size p)) (register-length p)
 step-length m (write n bs) = within 0 _ (asked-length (writeQuestions (writeEnable (m .shared)) n (place n) bs) 0) (omega arith)
 step-length m (level k b) = within 0 _ (asked-length (levelQuestions k) 0) (omega arith)
 step-length m (current k x) = within 0 _ (asked-length (currentQuestions k x) 0) (omega arith)
+step-length m (lookUp k x) = within 0 _ (asked-length (lookUpQuestions k x) 0) (omega arith)
 step-length m tick = omega arith
 
 pub read-length : (n : ℕ) (lent : List ℕ) (r : Reply) → r ≡ readReply n (place n) lent → lengthOf r ≤ imageSize
@@ -55,12 +71,12 @@ read-length n lent r e =
     let p = place n in rw e (within (size p) _ (asked-length (readQuestions n p lent) (size p)) (register-length p))
 
 -- ---- of the replies that the library's calls give
-pub reply-length : (m : Module) (x : Request) (r : Reply) (buf : List ℕ) (d g : Bool) → answerOf r buf d g ≡ step m x .answer → lengthOf r ≤ imageSize
+pub reply-length : (m : Module) (x : Request) (r : Reply) (buf : List ℕ) (d g : Bool) → answerOf r buf d g 0 ≡ step m x .answer → lengthOf r ≤ imageSize
 reply-length m x r buf d g e = subst (λ (n : ℕ). n ≤ imageSize) (ap (λ (a : Answer). a .length) (sym e)) (step-length m x)
 
 -- the contracts of samples and writes speak of every module that has the parts: here is one
 someModule : Shared → Service → Channel → Module
-someModule s v ch = record { shared = s; service = v; channels = replicate 16 ch }
+someModule s v ch = moduleOf s v (replicate 16 ch) (restoredData (keptFrom []))
 
 pub sample-length : (x : Request) (s : Shared) (ch : Channel) (i : ℕ) (t : Taken) → i < 16 → SampleBy x s ch i t → lengthOf (t .reply) ≤ imageSize
 unfolding someModule
@@ -78,13 +94,13 @@ write-length s v ch n bs b h =
     let m = someModule s v ch in
     let has : Has s v ch (slotOf (n / 16)) m =
     record { shared-is = refl; service-is = refl; sixteen = length-replicate 16 ch; channel-is = getD-replicate 16 (slotOf (n / 16)) ch nothing (slot-fits (n / 16)) } in
-    ap (λ (z : Stepped). z .answer .length) (h .1 m has) ∙ none _ (asked-length (writeQuestions (writeEnable s) n (place n) bs) 0)
+    ap (λ (z : Stepped). z .answer .length) (h .2 m has) ∙ none _ (asked-length (writeQuestions (writeEnable s) n (place n) bs) 0)
 
-pub power-up-length : (img : List ℕ) (r : Reply) → answerOf r [] false false ≡ powerUpAnswer img → lengthOf r ≤ imageSize
+pub power-up-length : (img : List ℕ) (r : Reply) → answerOf r [] false false 0 ≡ powerUpAnswer img → lengthOf r ≤ imageSize
 unfolding powerUpAnswer powerUpReply
 power-up-length img r e =
     subst (λ (n : ℕ). n ≤ imageSize) (ap (λ (a : Answer). a .length) (sym e)) (within 0 _ (asked-length (powerUpQuestions img) 0) (omega arith))
 
-pub store-length : (m : Module) (lent : List ℕ) (r : Reply) (lent′ : List ℕ) → answerOf r lent′ false false ≡ storeAnswer m lent → lengthOf r ≤ imageSize
+pub store-length : (m : Module) (lent : List ℕ) (r : Reply) (lent′ : List ℕ) → answerOf r lent′ false false 0 ≡ storeAnswer m lent → lengthOf r ≤ imageSize
 unfolding storeAnswer storeReply
 store-length m lent r lent′ e = subst (λ (n : ℕ). n ≤ imageSize) (ap (λ (a : Answer). a .length) (sym e)) (asked-length (storeQuestions lent) imageSize)

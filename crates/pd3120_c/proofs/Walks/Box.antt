@@ -9,12 +9,15 @@ use denote.Shadow.{shadow}
 use denote.Array.{each}
 use denote.Struct.Laws as LL
 use Rattle.model.specs.declared.Channel.{Channel}
+use Rattle.model.specs.declared.DataChannel.{DataChannel}
 use Rattle.model.specs.declared.Module.{Module}
 use Rattle.model.specs.declared.Service.{Service}
 use Rattle.model.specs.declared.Shared.{Shared}
 use Rattle.model.specs.State.{nothing}
 use Rattle.model.proofs.Channel as Ch
 use Rattle.model.proofs.Channel.Laws as Ch′
+use Rattle.model.proofs.DataChannel as Dc
+use Rattle.model.proofs.DataChannel.Laws as Dc′
 use Rattle.model.proofs.Module as T
 use Rattle.model.proofs.Module.Laws as T′
 use Rattle.model.proofs.Service as Sv
@@ -86,6 +89,20 @@ channel = record {
   pure = λ x vs. Ch′.the-field-plain (Ch.the-type .to x) vs;
 }
 
+abbrev pub data-channel : Plain
+data-channel = record {
+  D = DataChannel;
+  mir = Dc′.mir;
+  written = Dc.the-row .written;
+  reaches = Dc.the-row .reaches;
+  own = Dc.the-row .own;
+  coded = Dc.the-row .coded;
+  val = Dc′.lowered;
+  tells = Dc′.lowers .val-is;
+  typed = λ 𝓤 H A W x p. LL.lawful Dc.the-type Dc′.the-laws 𝓤 H A W .typed x _ p .0;
+  pure = λ x vs. Dc′.the-field-plain (Dc.the-type .to x) vs;
+}
+
 -- what is owned at some machine values is owned at its own
 pub own-value : (P : Plain) (x : P .D) (vs : List Val) → shadow (P .own x vs) → shadow (P .own x (P .val x ∷ []))
 own-value P x vs p = subst (λ (us : List Val). shadow (P .own x us)) (P .tells x vs p) p
@@ -99,7 +116,7 @@ pub owned-each : (cs : List Channel) → Owned channel cs → shadow (each _ (Ch
 owned-each [] p = tt
 owned-each (c ∷ cs) p = (p .0, owned-each cs (p .1))
 
-abbrev pub box : Grouped shared service channel
+abbrev pub box : Grouped shared service channel data-channel
 box = record {
   D = Module;
   name = T.struct .name;
@@ -111,8 +128,9 @@ box = record {
   first = λ m. m .shared;
   second = λ m. m .service;
   items = λ m. m .channels;
+  last = λ m. m .«data_channel»;
   none = nothing;
-  make = λ s v cs. record { shared = s; service = v; channels = cs };
+  make = λ s v cs d. record { shared = s; service = v; channels = cs; «data_channel» = d };
   tells = T′.lowers .val-is;
   typed = λ 𝓤 H A W x v p. LL.lawful T.the-type T′.the-laws 𝓤 H A W .typed x _ p .0;
   pure = λ x vs. T′.the-field-plain (T.the-type .to x) vs;
@@ -122,15 +140,14 @@ box = record {
         (
           own-value service (m .service) _ (f .1 .0),
           (
-            each-owned (m .channels) _ (f .1 .1 .0 .1 .1),
-            sym (length-map (m .channels) (Ch.the-type .to))
-                ∙ f .1 .1 .0 .1 .0 .1,
+            (each-owned (m .channels) _ (f .1 .1 .0 .1 .1), sym (length-map (m .channels) (Ch.the-type .to)) ∙ f .1 .1 .0 .1 .0 .1),
+            own-value data-channel (m .«data_channel») _ (f .1 .1 .1 .0),
           ),
         ),
       );
-  whole = λ s v cs p q r n. (
-    (Sh′.lowered s ∷ [], (Sv′.lowered v ∷ [], (_ ∷ [], tt))),
-    (refl, (p, (q, ((map Ch′.lowered cs, ((refl, length-map cs (Ch.the-type .to) ∙ n), owned-each cs r)), tt)))),
+  whole = λ s v cs d p q r n t. (
+    (Sh′.lowered s ∷ [], (Sv′.lowered v ∷ [], (_ ∷ [], (Dc′.lowered d ∷ [], tt)))),
+    (refl, (p, (q, ((map Ch′.lowered cs, ((refl, length-map cs (Ch.the-type .to) ∙ n), owned-each cs r)), (t, tt))))),
   );
   small = tt;
   few = tt;
@@ -139,7 +156,7 @@ box = record {
 
 -- the module as one value
 abbrev pub held : Plain
-held = rows shared service channel box
+held = rows shared service channel data-channel box
 
 -- ---- the answers: a module and a code
 abbrev pub answer : Packed held
@@ -243,11 +260,13 @@ write-begun = record {
   item = λ d. d .channel;
   count = λ d. d .count;
   number = λ d. d .number;
+  flag = λ d. d .«of_data»;
   rest = λ d. vcons (Pl′.lowered (d .place)) (vcons (vint w16 (d .word)) vnil);
   tells = Wb′.lowers .val-is;
   typed = λ 𝓤 H A W x v p. LL.lawful Wb.the-type Wb′.the-laws 𝓤 H A W .typed x _ p .0;
   pure = λ x vs. Wb′.the-field-plain (Wb.the-type .to x) vs;
   fields = λ x vs p.
       let f = LL.owed Wb.the-type Wb′.the-laws x vs p in
-      (own-value shared (x .shared) _ (f .0), (own-value service (x .service) _ (f .1 .0), (own-value channel (x .channel) _ (f .1 .1 .0), f .1 .1 .1 .1 .0 .1)));
+      let c = own-value channel (x .channel) _ (f .1 .1 .0) in
+      (own-value shared (x .shared) _ (f .0), (own-value service (x .service) _ (f .1 .0), (c, f .1 .1 .1 .1 .0 .1)));
 }

@@ -1,5 +1,6 @@
 -- An element of an array's cell, for a proof that walks code over an array in memory, beside `types.Part`'s `sub` for a field of a struct's cell.
 --     elem us k p        element k of the array's cell that p finds, at the place that MIR's `offset` computes, k times the element's size past the array's
+--     item C cs k p      the same of an array of items cs, each of which is owned
 -- Assumes `Given` (of it `at-elems` and `elems-at`).
 use mathlib.Core.Path.{_≡_, ap, _∙_, subst}
 use Prim.Native.Nat.{ℕ, zero, suc, _+_, _*_, _<_}
@@ -19,6 +20,8 @@ use ghost.Atoms.{Atoms}
 use types.Kit.{Given, Item, ‵, raw, _⊛_, mean, _$_, _∵_, !, qed, move, use1, use2, split, assume, frame, each, done}
 use types.Part.{Part}
 use denote.Index.{place, place-is}
+use Rattle.pd3120_c.proofs.Walks.Plain.{Plain}
+use Rattle.pd3120_c.proofs.Walks.Grouped.{Good, item-vals, long, within}
 
 module _ {M : Type 1} (𝓤 : URA M) (H : Heap 𝓤) (A : Atoms 𝓤) (W : Given 𝓤 H A) (q : Share) (τ : Ty) where
   -- the cells without that of element k
@@ -33,7 +36,8 @@ module _ {M : Type 1} (𝓤 : URA M) (H : Heap 𝓤) (A : Atoms 𝓤) (W : Given
   takes (u ∷ us) zero d b o l = qed W ((‵ (fat q τ b o u) ⊛ raw (elems 𝓤 H q τ b (o + size τ) us)) ∷ []) ∵ split ! $ frame ! $ done !
   takes (u ∷ us) (suc k) d b o l =
       qed W ((‵ (fat q τ b o u) ⊛ raw (elems 𝓤 H q τ b (o + size τ) us)) ∷ []) ∵ split ! $ move ! (1 ∷ []) $
-      use1 W (‵ (fat q τ b (place (size τ) (o + size τ) k) (getD us k d)) ⊛ raw (others us k b (o + size τ))) (takes us k d b (o + size τ) (le-of-suc-le-suc l)) $
+      use1 W (‵ (fat q τ b (place (size τ) (o + size τ) k) (getD us k d)) ⊛ raw (others us k b (o + size τ)))
+      (takes us k d b (o + size τ) (le-of-suc-le-suc l)) $
       split ! $ frame ! $ move ! (1 ∷ 0 ∷ []) $ frame ! $ done !
 
   puts : (us : List Val) (k : ℕ) (u : Val) (b o : ℕ) → k < length us
@@ -71,3 +75,9 @@ module _ {M : Type 1} {𝓤 : URA M} {H : Heap 𝓤} {A : Atoms 𝓤} {K : Type 
 
       Element : ℕ → Val → SProp 𝓤
       Element a u = wand 𝓤 (H .at q τ b a u) (mean 𝓤 H A (back (vstruct (ofList (set us k u)))))
+
+  pub item : K → {i : Item 𝓤} {q : Share} {n b o : ℕ} {back : Val → Item 𝓤} (C : Plain) (cs : List (C .D)) (good : Good C n cs) (none : C .D) (k : ℕ)
+      (l : k < n) → Part K W i q (tyArray (C .mir) n) b o (vstruct (ofList (item-vals C n cs good))) back
+      → Part K W i q (C .mir) b (k * size (C .mir) + o) (getD (item-vals C n cs good) k (C .val none))
+      (λ u. back (vstruct (ofList (set (item-vals C n cs good) k u))))
+  item t {n = n} C cs good none k l p = elem t (item-vals C n cs good) k (C .val none) (within C n cs good none k l) (long C n cs good) p

@@ -1,10 +1,11 @@
--- A plain struct of a value, a second value and an array, as the box's module is of its shared record, its service record and its channels: what a walk uses
--- of it where it reads and writes parts in place.
---     Grouped A B C       such a struct.        rows        the struct as a plain type.        parts        its machine value, from those of its parts
+-- A plain struct of a value, a second value, an array and a last value, as the box's module is of its shared record, its service record, its channels and its
+-- data channel: what a walk uses of it where it reads and writes parts in place.
+--     Grouped A B C L     such a struct.        rows        the struct as a plain type.        parts        its machine value, from its parts
+--     laid             the same from the machine values of the items.        item-at        item k
 --     Owned C cs       each of cs is owned at its own machine value.        owned-at, owned-set      of one of them, and with one anew
 --     moved            the machine values of a list with one anew
 --     Changes Y Z      a plain struct of a second value, an item and a u32, as the answer of a call that changes these two is
---     Good C n cs      n items, each of them owned.        good-set         with one anew.        item-vals .. item-typed       their machine values, and item k
+--     Good C n cs      n items, each of them owned.        good-set         with one anew.        item-vals .. item-typed      their machine values, and item k
 --     first-is .. new-is       of an owned struct: its parts are owned, and so is the struct with parts anew
 -- Assumes nothing.
 use mathlib.Core.Path.{_≡_, refl, sym, ap, _∙_, subst}
@@ -46,12 +47,15 @@ moved C [] k y = refl
 moved C (c ∷ cs) zero y = refl
 moved C (c ∷ cs) (suc k) y = ap (λ (vs : List Val). C .val c ∷ vs) (moved C cs k y)
 
-module _ (A B C : Plain) where
-  abbrev pub parts : A .D → B .D → List (C .D) → Val
-  parts a b cs = vstruct (vcons (A .val a) (vcons (B .val b) (vcons (vstruct (ofList (map (C .val) cs))) vnil)))
+module _ (A B C L : Plain) where
+  abbrev pub laid : A .D → B .D → List Val → L .D → Val
+  laid a b ws d = vstruct (vcons (A .val a) (vcons (B .val b) (vcons (vstruct (ofList ws)) (vcons (L .val d) vnil))))
+
+  abbrev pub parts : A .D → B .D → List (C .D) → L .D → Val
+  parts a b cs d = laid a b (map (C .val) cs) d
 
   abbrev pub layout : Sym → ℕ → Ty
-  layout ν n = tyStruct ν (tcons (A .mir) (tcons (B .mir) (tcons (tyArray (C .mir) n) tnil)))
+  layout ν n = tyStruct ν (tcons (A .mir) (tcons (B .mir) (tcons (tyArray (C .mir) n) (tcons (L .mir) tnil))))
 
   -- `none` is what stands past the end of the array
   pub record Grouped : Type 2 where
@@ -65,17 +69,18 @@ module _ (A B C : Plain) where
     pub first : D → A .D
     pub second : D → B .D
     pub items : D → List (C .D)
+    pub last : D → L .D
     pub none : C .D
-    pub make : A .D → B .D → List (C .D) → D
-    pub tells : (x : D) (vs : List Val) → shadow (own x vs) → vs ≡ parts (first x) (second x) (items x) ∷ []
+    pub make : A .D → B .D → List (C .D) → L .D → D
+    pub tells : (x : D) (vs : List Val) → shadow (own x vs) → vs ≡ parts (first x) (second x) (items x) (last x) ∷ []
     pub typed : {M : Type 1} (𝓤 : URA M) (H : Heap 𝓤) (𝓐 : Atoms 𝓤) → Given 𝓤 H 𝓐 → (x : D) (v : Val) → shadow (own x (v ∷ [])) → T
         (hasTy (layout name count) v) × WT v
     pub pure : (x : D) (vs : List Val) → Pure (own x vs)
     pub apart : (x : D) (vs : List Val) → shadow (own x vs)
         → shadow (A .own (first x) (A .val (first x) ∷ [])) × (shadow (B .own (second x) (B .val (second x) ∷ [])) ×
-        (Owned C (items x) × (length (items x) ≡ count)))
-    pub whole : (a : A .D) (b : B .D) (cs : List (C .D)) → shadow (A .own a (A .val a ∷ [])) → shadow (B .own b (B .val b ∷ [])) → Owned C cs → length cs ≡ count
-        → shadow (own (make a b cs) (parts a b cs ∷ []))
+        ((Owned C (items x) × (length (items x) ≡ count)) × shadow (L .own (last x) (L .val (last x) ∷ []))))
+    pub whole : (a : A .D) (b : B .D) (cs : List (C .D)) (d : L .D) → shadow (A .own a (A .val a ∷ [])) → shadow (B .own b (B .val b ∷ []))
+        → Owned C cs → length cs ≡ count → shadow (L .own d (L .val d ∷ [])) → shadow (own (make a b cs d) (parts a b cs d ∷ []))
     -- an item's size is a number of the machine, and so is each item's place
     pub small : T (ltb (size (C .mir)) (2 ^ 64))
     pub few : T (ltb count (2 ^ 64))
@@ -89,7 +94,7 @@ module _ (A B C : Plain) where
     reaches = S .reaches;
     own = S .own;
     coded = S .coded;
-    val = λ x. parts (S .first x) (S .second x) (S .items x);
+    val = λ x. parts (S .first x) (S .second x) (S .items x) (S .last x);
     tells = S .tells;
     typed = λ 𝓤 H 𝓐 W x p. S .typed 𝓤 H 𝓐 W x _ p;
     pure = S .pure;
@@ -157,8 +162,12 @@ module _ (C : Plain) (n : ℕ) (cs : List (C .D)) (good : Good C n cs) where
         → T (hasTy (C .mir) (getD item-vals k (C .val none))) × WT (getD item-vals k (C .val none))
     item-typed 𝓤 H A W = subst (λ (v : Val). T (hasTy (C .mir) v) × WT v) (sym item-val) (C .typed 𝓤 H A W (getD cs k none) item-is)
 
+-- ---- item k of a struct
+abbrev pub item-at : (X Y Z L : Plain) (S : Grouped X Y Z L) → S .D → ℕ → Z .D
+item-at X Y Z L S h k = getD (S .items h) k (S .none)
+
 -- ---- of an owned struct h: its parts, and h with the second value and item k anew
-module _ (X Y Z : Plain) (S : Grouped X Y Z) (h : S .D) (is : shadow (S .own h (parts X Y Z (S .first h) (S .second h) (S .items h) ∷ []))) where
+module _ (X Y Z L : Plain) (S : Grouped X Y Z L) (h : S .D) (is : shadow (S .own h (rows X Y Z L S .val h ∷ []))) where
   pub first-is : shadow (X .own (S .first h) (X .val (S .first h) ∷ []))
   first-is = S .apart h _ is .0
 
@@ -166,10 +175,13 @@ module _ (X Y Z : Plain) (S : Grouped X Y Z) (h : S .D) (is : shadow (S .own h (
   second-is = S .apart h _ is .1 .0
 
   pub items-are : Good Z (S .count) (S .items h)
-  items-are = S .apart h _ is .1 .1
+  items-are = S .apart h _ is .1 .1 .0
+
+  pub last-is : shadow (L .own (S .last h) (L .val (S .last h) ∷ []))
+  last-is = S .apart h _ is .1 .1 .1
 
   pub new-is : (y : Y .D) (k : ℕ) (z : Z .D) → shadow (Y .own y (Y .val y ∷ [])) → shadow (Z .own z (Z .val z ∷ []))
-      → shadow (S .own (S .make (S .first h) y (set (S .items h) k z)) (parts X Y Z (S .first h) y (set (S .items h) k z) ∷ []))
+      → shadow (S .own (S .make (S .first h) y (set (S .items h) k z) (S .last h)) (parts X Y Z L (S .first h) y (set (S .items h) k z) (S .last h) ∷ []))
   new-is y k z y-is z-is =
       let g = good-set Z (S .count) (S .items h) k z items-are z-is in
-      S .whole (S .first h) y (set (S .items h) k z) first-is y-is (g .0) (g .1)
+      S .whole (S .first h) y (set (S .items h) k z) (S .last h) first-is y-is (g .0) (g .1) last-is

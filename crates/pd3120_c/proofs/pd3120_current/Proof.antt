@@ -17,8 +17,9 @@ use Rattle.pd3120_c.specs.declared.ChannelDone.{ChannelDone}
 use Rattle.pd3120_c.specs.Codes.{Left, SampleLeft}
 use Rattle.pd3120_c.proofs.Laws.Answers.{sample-left}
 use Rattle.pd3120_c.proofs.Walks.Types.{byte, real}
-use Rattle.pd3120_c.proofs.Walks.Box.{shared, service, channel, box, sampled}
-use Rattle.pd3120_c.proofs.Walks.Sample.{Found, Called, meets}
+use Rattle.pd3120_c.proofs.Walks.Box.{shared, service, channel, data-channel, box, sampled}
+use Rattle.pd3120_c.proofs.Walks.Sample.{Called, meets}
+use Rattle.pd3120_c.proofs.Walks.Slot.{Found}
 use Rattle.pd3120_c.proofs.calls.current.Symbol as call-def
 use Rattle.pd3120_c.proofs.calls.current.Symbol.{name as #call}
 use Rattle.pd3120_c.proofs.calls.current.Met as call-thm
@@ -41,9 +42,8 @@ unfolding code.routine tablesOf
 pd3120-current-spec 𝓤 H 𝓜 𝓖 𝓡 =
     entered 𝓤 H (tripleOf 𝓤 H (𝓖 .A) exported.signature (exported.spec 𝓤 H (𝓖 .A) (𝓜 .mem) (𝓡 .run)))
     (tables 𝓤 H 𝓜 𝓡 code.env .C) (tables 𝓤 H 𝓜 𝓡 code.env .Λ) #export code.function (code.unfolded 𝓤 H 𝓜 𝓡)
-    (meets shared service channel box byte real sampled 𝓤 H (𝓖 .A) (givenOf 𝓤 H 𝓜 𝓖) #slot #call Finds Gives Leaves (λ k i p. p .1)
+    (meets shared service channel data-channel box byte real sampled 𝓤 H (𝓖 .A) (givenOf 𝓤 H 𝓜 𝓖) #slot #call Finds Gives Leaves (λ k i p. p .1)
     (λ m k x i d p e. sample-left (current k x) m k i d (p .0) e) (tablesOf 𝓤 H 𝓜 (tables 𝓤 H 𝓜 𝓡 code.env))
-    (cited 𝓤 H (Found shared service channel box byte real sampled 𝓤 H (𝓖 .A) Finds) 𝓜 𝓡 code.env #slot slot-def.routine code.calls-pd3120·samples·slot
-    (slot-thm.met 𝓤 H 𝓜 𝓖 𝓡))
-    (cited 𝓤 H (Called shared service channel box byte real sampled 𝓤 H (𝓖 .A) Gives) 𝓜 𝓡 code.env #call call-def.routine code.calls-pd3120-c·calls·current
-    (call-thm.met 𝓤 H 𝓜 𝓖 𝓡)))
+    (cited 𝓤 H (Found byte 𝓤 H (𝓖 .A) Finds) 𝓜 𝓡 code.env #slot slot-def.routine code.calls-pd3120·samples·slot (slot-thm.met 𝓤 H 𝓜 𝓖 𝓡))
+    (cited 𝓤 H (Called shared service channel data-channel box byte real sampled 𝓤 H (𝓖 .A) Gives) 𝓜 𝓡 code.env #call call-def.routine
+    code.calls-pd3120-c·calls·current (call-thm.met 𝓤 H 𝓜 𝓖 𝓡)))

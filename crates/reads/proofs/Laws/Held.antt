@@ -8,6 +8,7 @@ use lib.Seq.{take-append-seam}
 use Rattle.model.specs.declared.Channel.{Channel}
 use Rattle.model.specs.declared.Service.{Service}
 use Rattle.model.specs.declared.Shared.{Shared}
+use Rattle.model.specs.declared.DataChannel.{DataChannel}
 use Rattle.model.specs.declared.ServiceRegister.{ServiceRegister}
 use Rattle.model.specs.declared.DigitalRegister.{DigitalRegister}
 use Rattle.model.specs.declared.CommonRegister.{CommonRegister}
@@ -15,8 +16,11 @@ use Rattle.model.specs.declared.ServiceRegister.the-variants.{Highest, Reset, F
 use Rattle.model.specs.declared.DigitalRegister.the-variants.{FlagReg, OutTimer, Counter, OutCurrent, OperatingTime, UserBytes, FBTimer, FBPreset, OutPreset}
 use Rattle.model.specs.declared.DigitalRegister.the-variants.{ChConfig, MinCurrent, MaxCurrent, UserReals, Maintenance, ChError}
 use Rattle.model.specs.declared.CommonRegister.the-variants.{OutFlags, InFlags, IOChError, ChError as CommonChError}
-use Rattle.model.specs.Registers.{Place, service, digital, common, unlisted, serviceRow, digitalRow, commonRow, size}
+use Rattle.model.specs.Registers.{serviceRow, digitalRow, commonRow}
 use Rattle.model.specs.Reads.{serviceBytes, bytesRead}
+use Rattle.model.specs.Image.{keptFrom}
+use Rattle.model.specs.Restored.{restoredData}
+use Rattle.model.specs.Calls.{overwritten}
 use Rattle.model.proofs.Facts.{sized}
 use Rattle.errors.specs.declared.words.Words.{Words}
 use Rattle.errors.specs.Words.{OfWords}
@@ -34,7 +38,7 @@ unfolding held
 held-length bs = refl
 
 -- no register is wider than the width
-service-fits : (r : ServiceRegister) → serviceRow r .size ≤ width
+pub service-fits : (r : ServiceRegister) → serviceRow r .size ≤ width
 service-fits Highest = omega arith
 service-fits Reset = omega arith
 service-fits FreeRunTimer = omega arith
@@ -44,7 +48,7 @@ service-fits WDPreset = omega arith
 service-fits WriteEnable = omega arith
 service-fits CommonError = omega arith
 
-digital-fits : (r : DigitalRegister) → digitalRow r .size ≤ width
+pub digital-fits : (r : DigitalRegister) → digitalRow r .size ≤ width
 digital-fits FlagReg = omega arith
 digital-fits OutTimer = omega arith
 digital-fits Counter = omega arith
@@ -61,24 +65,30 @@ digital-fits UserReals = omega arith
 digital-fits Maintenance = omega arith
 digital-fits ChError = omega arith
 
-common-fits : (r : CommonRegister) → commonRow r .size ≤ width
+pub common-fits : (r : CommonRegister) → commonRow r .size ≤ width
 common-fits OutFlags = omega arith
 common-fits InFlags = omega arith
 common-fits IOChError = omega arith
 common-fits CommonChError = omega arith
 
-pub fits : (p : Place) → size p ≤ width
-fits (service r) = service-fits r
-fits (digital k r) = digital-fits r
-fits (common r) = common-fits r
-fits unlisted = omega arith
+-- so its bytes are copied to a buffer that has room for its row
+pub copies : (b : RegisterBytes) (lent : List ℕ) (n : ℕ) → b .len ≡ n → n ≤ width → n ≤ length lent → (b .len ≤ width) × (b .len ≤ length lent)
+copies b lent n e fits room = (rw e fits, rw e room)
+
+-- and a buffer with the bytes that are held has the register's
+pub copied : (b : RegisterBytes) (bs lent : List ℕ) → b ≡ held bs → overwritten (take (b .len) (b .bytes)) lent ≡ overwritten bs lent
+copied b bs lent e = ap (λ (t : RegisterBytes). overwritten (take (t .len) (t .bytes)) lent) e ∙ ap (λ (l : List ℕ). overwritten l lent) (held-bytes bs)
 
 -- bytes that are held have their length
 pub held-size : (b : RegisterBytes) (bs : List ℕ) (n : ℕ) → b ≡ held bs → length bs ≡ n → b .len ≡ n
 held-size b bs n e l = ap (λ (h : RegisterBytes). h .len) e ∙ held-length bs ∙ l
 
 -- a service register whose bytes hang on no channel: they are held for any channels, at the size of its row
-pub own : (r : ServiceRegister) (s : Shared) (v : Service) (w : Words) (b : RegisterBytes) → ((cs : List Channel) → b ≡ held (serviceBytes r (boxOf s v cs)))
-    → OfWords (λ cs. held (serviceBytes r (boxOf s v cs))) w b × (b .len ≡ serviceRow r .size)
+pub own : (r : ServiceRegister) (s : Shared) (v : Service) (w : Words) (b : RegisterBytes) →
+    ((d : DataChannel) (cs : List Channel) → b ≡ held (serviceBytes r (boxOf s v d cs)))
+    → ((d : DataChannel) → OfWords (λ cs. held (serviceBytes r (boxOf s v d cs))) w b) × (b .len ≡ serviceRow r .size)
 unfolding bytesRead
-own r s v w b f = (λ cs n e. f cs, held-size _ _ _ (f []) (sized .services r (boxOf s v [])))
+own r s v w b f = (λ d cs n e. f d cs, held-size _ _ _ (f noData []) (sized .services r (boxOf s v noData [])))
+  where
+    noData : DataChannel
+    noData = restoredData (keptFrom [])

@@ -18,6 +18,9 @@ enum-told-2 c = search needs
 enum-told-3 : tie.Need-enum-told-3
 enum-told-3 c = search needs
 
+enum-told-4 : tie.Need-enum-told-4
+enum-told-4 c = search needs
+
 returns : tie.Need-returns
 returns c = simp (c .enum-told .given .1)
 
@@ -30,6 +33,9 @@ returns-3 c = simp (c .enum-told2 .given .1)
 returns-4 : tie.Need-returns-4
 returns-4 c = simp (c .enum-told3 .given .1)
 
+returns-5 : tie.Need-returns-5
+returns-5 c = simp (c .enum-told4 .given .1)
+
 pub channel-left-spec : {M : Type 1} → statement M
 channel-left-spec =
     tie.close
@@ -39,7 +45,9 @@ channel-left-spec =
     digital-read-requires
     enum-told-2
     enum-told-3
+    enum-told-4
     returns
     returns-2
     returns-3
-    returns-4)
+    returns-4
+    returns-5)

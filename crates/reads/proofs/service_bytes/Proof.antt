@@ -64,34 +64,34 @@ twelve-requires c κs = search needs
 
 returns : tie.Need-returns
 unfolding serviceBytes bytesOf
-returns c = let a = c .before .before .before .args in own (a .r) (a .s) (a .v) (a .w) _ (λ cs. simp (c .two .ensures, c .before .enum-told .given .1))
+returns c = let a = c .before .before .before .args in own (a .r) (a .s) (a .v) (a .w) _ (λ d cs. simp (c .two .ensures, c .before .enum-told .given .1))
 
 returns-2 : tie.Need-returns-2
 unfolding serviceBytes
-returns-2 c = let a = c .before .before .before .args in own (a .r) (a .s) (a .v) (a .w) _ (λ cs. simp (c .one .ensures, c .before .enum-told2 .given .1))
+returns-2 c = let a = c .before .before .before .args in own (a .r) (a .s) (a .v) (a .w) _ (λ d cs. simp (c .one .ensures, c .before .enum-told2 .given .1))
 
 returns-3 : tie.Need-returns-3
 unfolding serviceBytes
 returns-3 c =
     let a = c .before .before .before .before .args in
     let z = a .s .«free_run_timer» .0 in
-    own (a .r) (a .s) (a .v) (a .w) _ (λ cs. simp (c .signed .ensures, c .before .before .enum-told3 .given .1, toZ-ofZ {w = w32} {z = z} (search needs)))
+    own (a .r) (a .s) (a .v) (a .w) _ (λ d cs. simp (c .signed .ensures, c .before .before .enum-told3 .given .1, toZ-ofZ {w = w32} {z = z} (search needs)))
 
 returns-4 : tie.Need-returns-4
 unfolding serviceBytes
-returns-4 c = let a = c .before .before .before .args in own (a .r) (a .s) (a .v) (a .w) _ (λ cs. simp (c .timer .ensures, c .before .enum-told4 .given .1))
+returns-4 c = let a = c .before .before .before .args in own (a .r) (a .s) (a .v) (a .w) _ (λ d cs. simp (c .timer .ensures, c .before .enum-told4 .given .1))
 
 returns-5 : tie.Need-returns-5
 unfolding serviceBytes
-returns-5 c = let a = c .before .before .before .args in own (a .r) (a .s) (a .v) (a .w) _ (λ cs. simp (c .config .ensures, c .before .enum-told5 .given .1))
+returns-5 c = let a = c .before .before .before .args in own (a .r) (a .s) (a .v) (a .w) _ (λ d cs. simp (c .config .ensures, c .before .enum-told5 .given .1))
 
 returns-6 : tie.Need-returns-6
 unfolding serviceBytes
-returns-6 c = let a = c .before .before .before .args in own (a .r) (a .s) (a .v) (a .w) _ (λ cs. simp (c .timer2 .ensures, c .before .enum-told6 .given .1))
+returns-6 c = let a = c .before .before .before .args in own (a .r) (a .s) (a .v) (a .w) _ (λ d cs. simp (c .timer2 .ensures, c .before .enum-told6 .given .1))
 
 returns-7 : tie.Need-returns-7
 unfolding serviceBytes
-returns-7 c = let a = c .before .before .before .args in own (a .r) (a .s) (a .v) (a .w) _ (λ cs. simp (c .truth .ensures, c .before .enum-told7 .given .1))
+returns-7 c = let a = c .before .before .before .args in own (a .r) (a .s) (a .v) (a .w) _ (λ d cs. simp (c .truth .ensures, c .before .enum-told7 .given .1))
 
 returns-8 : tie.Need-returns-8
 unfolding serviceBytes
@@ -99,7 +99,7 @@ returns-8 c =
     let a = c .before .before .before .before .args in
     let l : length (c .before .common-error .result) ≡ 12 = search needs in
     let r = c .before .before .enum-told8 .given .1 in (
-      λ cs n e. simp (c .twelve .ensures, c .before .common-error .ensures (boxOf (a .s) (a .v) cs) refl n e, r),
+      λ d cs n e. simp (c .twelve .ensures, c .before .common-error .ensures (boxOf (a .s) (a .v) d cs) refl n e, r),
       rw r (held-size _ _ _ (c .twelve .ensures) l),
     )
 

@@ -21,6 +21,12 @@ enum-known-p-3 c = search needs
 common-size-requires : tie.Need-common-size-requires
 common-size-requires c κs = search needs
 
+enum-known-p-4 : tie.Need-enum-known-p-4
+enum-known-p-4 c = search needs
+
+data-size-requires : tie.Need-data-size-requires
+data-size-requires c κs = search needs
+
 enum-told : tie.Need-enum-told
 enum-told c = search needs
 
@@ -36,6 +42,9 @@ returns-3 c = search needs
 returns-4 : tie.Need-returns-4
 returns-4 c = search needs
 
+returns-5 : tie.Need-returns-5
+returns-5 c = search needs
+
 pub size-spec : {M : Type 1} → statement M
 size-spec =
     tie.close
@@ -46,8 +55,11 @@ size-spec =
     digital-size-requires
     enum-known-p-3
     common-size-requires
+    enum-known-p-4
+    data-size-requires
     enum-told
     returns
     returns-2
     returns-3
-    returns-4)
+    returns-4
+    returns-5)

@@ -1,34 +1,36 @@
 -- The two steps of a write, put together: the channels of the second step, and the box that both leave. Assumes nothing.
 use mathlib.Core.Path.{_≡_, refl, sym, ap, ap₂, subst, _∙_}
-use mathlib.Core.Bool.{Bool, cond}
+use mathlib.Core.Bool.{Bool, true, false, cond}
 use mathlib.Core.List.{List, [], _∷_, _++_, map}
 use Prim.Native.Nat.{ℕ, zero, suc, _+_, _/_, _≤_}
 use native.Mathlib.Nat.{zero-lt-suc}
 use native.Mathlib.Omega.{arith}
-use lib.Dec.{ltb, leb·suc-suc}
+use lib.Dec.{T, ltb, leb·suc-suc}
 use lib.ListN.{length, getD, take, drop, set}
 use lib.Seq.{set-getD}
 use borrow.Author.Tests.{lt-ltb, le-ltb}
 use Rattle.model.specs.declared.Channel.{Channel}
 use Rattle.model.specs.declared.Shared.{Shared}
 use Rattle.model.specs.declared.Service.{Service}
+use Rattle.model.specs.declared.DataChannel.{DataChannel}
 use Rattle.model.specs.declared.Module.{Module}
 use Rattle.model.specs.declared.Refusal.{Refusal}
 use Rattle.model.specs.declared.Reply.{Reply}
 use Rattle.model.specs.declared.Reply.the-variants.{Done, Refused}
 use Rattle.model.specs.declared.ServiceRegister.{ServiceRegister}
 use Rattle.model.specs.declared.ServiceRegister.the-variants.{Highest, Reset, FreeRunTimer, WDTimer, ModuleConfig, WDPreset, WriteEnable, CommonError}
-use Rattle.model.specs.State.{writeEnable, nothing}
-use Rattle.model.specs.Registers.{Place, service, digital, common, unlisted, place}
+use Rattle.model.specs.State.{writeEnable, dataChannel, moduleOf, nothing}
+use Rattle.model.specs.Registers.{Place, service, digital, common, data-channel, unlisted, place}
 use Rattle.model.specs.Questions.{writeReply}
-use Rattle.model.specs.Writes.{each, everyWritten, commonWritten, written}
+use Rattle.model.specs.Writes.{each, everyWritten, commonWritten, dataReset, written}
 use Rattle.model.proofs.Laws.Filled.{filled, none, below}
 use Rattle.registers.specs.declared.Place as Code
 use Rattle.registers.specs.Places.{placed, slotOf, OfChannel}
 use Rattle.registers.proofs.Laws.{slot-of}
 use Rattle.writes.specs.declared.Begun.{Begun}
 use Rattle.writes.specs.Accepted.{writeOf}
-use Rattle.writes.specs.Begun.{sharedAfter, serviceAfter, channelAfter, serviceCount, countOf, writtenWord, eachWritten, firstEach, BegunBy}
+use Rattle.writes.specs.Begun.{sharedAfter, serviceAfter, channelAfter, dataAfter, dataLeft, dataBy, serviceCount, countOf, ofData}
+use Rattle.writes.specs.Begun.{writtenWord, eachWritten, firstEach, BegunBy}
 use Rattle.writes.proofs.Laws.Accepted.{answered}
 
 -- ---- the channels
@@ -76,17 +78,45 @@ every-channel CommonError xs l = all-of (λ (j : ℕ). everyWritten CommonError)
 
 -- ---- the box
 -- the parts after an accepted write, and each channel, make the box that it leaves
-whole : (p : Place) (bs : List ℕ) (i : ℕ) (s : Shared) (v : Service) (cs : List Channel) → OfChannel i p → length cs ≡ 16 →
-    record {
-      shared = sharedAfter p bs s;
-      service = serviceAfter p v;
-      channels = firstEach (eachWritten p (writtenWord p bs)) (countOf p) (set cs i (channelAfter p s bs (getD cs i nothing)));
-    } ≡ written p bs (record { shared = s; service = v; channels = cs })
+whole : (p : Place) (bs : List ℕ) (i : ℕ) (s : Shared) (v : Service) (cs : List Channel) (d : DataChannel) → OfChannel i p → length cs ≡ 16 →
+    moduleOf (sharedAfter p bs s) (serviceAfter p v)
+    (firstEach (eachWritten p (writtenWord p bs)) (countOf p) (set cs i (channelAfter p s bs (getD cs i nothing)))) (dataAfter p s bs d)
+    ≡ written p bs (moduleOf s v cs d)
 unfolding written commonWritten
-whole (service r) bs i s v cs o l = rw (set-getD cs i nothing, every-channel r cs l)
-whole (digital k r) bs i s v cs o l = rw o
-whole (common r) bs i s v cs o l = rw (set-getD cs i nothing, all-of (commonWritten r bs) 16 0 cs l)
-whole unlisted bs i s v cs o l = rw (set-getD cs i nothing)
+whole (service r) bs i s v cs d o l = rw (set-getD cs i nothing, every-channel r cs l)
+whole (digital k r) bs i s v cs d o l = rw o
+whole (common r) bs i s v cs d o l = rw (set-getD cs i nothing, all-of (commonWritten r bs) 16 0 cs l)
+whole (data-channel r) bs i s v cs d o l = rw (set-getD cs i nothing)
+whole unlisted bs i s v cs d o l = rw (set-getD cs i nothing)
+
+-- ---- the data channel
+no : {A : Type 0} → true ≡ false → A
+no e = absurd (subst T e tt)
+
+-- a service register that comes to no channel leaves it
+service-stays : (r : ServiceRegister) (d : DataChannel) → ltb 0 (serviceCount r) ≡ false → dataReset r d ≡ d
+unfolding dataReset
+service-stays Highest d e = refl
+service-stays Reset d e = no e
+service-stays FreeRunTimer d e = refl
+service-stays WDTimer d e = refl
+service-stays ModuleConfig d e = refl
+service-stays WDPreset d e = refl
+service-stays WriteEnable d e = refl
+service-stays CommonError d e = refl
+
+data-stays : (p : Place) (s : Shared) (bs : List ℕ) (d : DataChannel) → ofData p ≡ false → dataAfter p s bs d ≡ d
+data-stays (service r) s bs d e = service-stays r d e
+data-stays (digital k r) s bs d e = refl
+data-stays (common r) s bs d e = refl
+data-stays (data-channel r) s bs d e = no e
+data-stays unlisted s bs d e = refl
+
+-- by the reply of the write
+pub data-by : (s : Shared) (n : ℕ) (bs : List ℕ) (p : Place) (r : Reply) (d : DataChannel) → p ≡ place n → r ≡ writeReply (writeEnable s) n p bs
+    → dataBy s n bs d ≡ dataLeft r p s bs d
+unfolding dataBy
+data-by s n bs p r d e w = rw (w, e)
 
 count-fits : (p : Place) → countOf p ≤ 16
 count-fits (service Highest) = omega arith
@@ -99,6 +129,7 @@ count-fits (service WriteEnable) = omega arith
 count-fits (service CommonError) = omega arith
 count-fits (digital k r) = omega arith
 count-fits (common r) = omega arith
+count-fits (data-channel r) = omega arith
 count-fits unlisted = omega arith
 
 -- the parts that `begin` gives, of a write that is done and of one that is refused
@@ -107,27 +138,32 @@ module _ (s : Shared) (v : Service) (ch : Channel) (n : ℕ) (bs : List ℕ) (p 
   own : OfChannel (slotOf (n / 16)) (placed p)
   own = subst (OfChannel (slotOf (n / 16))) (sym e) (slot-of n)
 
-  pub begun-done : (k : ℕ) → r ≡ Done k → (s′ : Shared) (v′ : Service) (ch′ : Channel) (count word : ℕ)
+  pub begun-done : (k : ℕ) → r ≡ Done k → (s′ : Shared) (v′ : Service) (ch′ : Channel) (count : ℕ) (of-data : Bool) (word : ℕ)
       → s′ ≡ sharedAfter (placed p) bs s → v′ ≡ serviceAfter (placed p) v → ch′ ≡ channelAfter (placed p) s bs ch
-      → count ≡ countOf (placed p) → word ≡ writtenWord (placed p) bs
-      → BegunBy s v ch n bs (record { reply = r; shared = s′; service = v′; channel = ch′; count = count; place = p; word = word })
-  begun-done k d s′ v′ ch′ count word es ev ec en ew = (
+      → count ≡ countOf (placed p) → of-data ≡ ofData (placed p) → word ≡ writtenWord (placed p) bs
+      → BegunBy s v ch n bs
+      (record { reply = r; shared = s′; service = v′; channel = ch′; count = count; «of_data» = of-data; place = p; word = word })
+  begun-done k d s′ v′ ch′ count of-data word es ev ec en eo ew = (
     rw en (count-fits (placed p)),
+    λ x o. data-by s n bs (placed p) r x e w ∙ rw d (data-stays (placed p) s bs x (sym eo ∙ o)),
     λ m is iv l ic. answered m n bs (placed p) r _ e (rw is w)
-        (rw (d, es, ev, ec, en, ew, ← is, ← iv, ← ic) (whole (placed p) bs (slotOf (n / 16)) (m .shared) (m .service) (m .channels) own l)),
+        (rw (data-by s n bs (placed p) r (dataChannel m) e w, d, es, ev, ec, en, ew, ← is, ← iv, ← ic)
+        (whole (placed p) bs (slotOf (n / 16)) (m .shared) (m .service) (m .channels) (dataChannel m) own l)),
   )
 
   pub begun-refused : (q : Refusal) → r ≡ Refused q
-      → BegunBy s v ch n bs (record { reply = r; shared = s; service = v; channel = ch; count = 0; place = p; word = 0 })
+      → BegunBy s v ch n bs (record { reply = r; shared = s; service = v; channel = ch; count = 0; «of_data» = false; place = p; word = 0 })
   begun-refused q d = (
     omega arith,
+    λ x o. data-by s n bs (placed p) r x e w ∙ rw d,
     λ m is iv l ic. answered m n bs (placed p) r _ e (rw is w)
-        (rw (d, ← is, ← iv, ← ic, set-getD (m .channels) (slotOf (n / 16)) nothing)),
+        (rw (data-by s n bs (placed p) r (dataChannel m) e w, d, ← is, ← iv, ← ic, set-getD (m .channels) (slotOf (n / 16)) nothing)),
   )
 
 -- a box with the parts that a write begins with, and its channels after the second step, is the box that the write leaves
-pub ended : (m : Module) (n : ℕ) (bs : List ℕ) (i : ℕ) (b : Begun) (cs : List Channel) → i ≡ slotOf (n / 16) → length (m .channels) ≡ 16
+pub ended : (m : Module) (n : ℕ) (bs : List ℕ) (i : ℕ) (b : Begun) (cs : List Channel) (d : DataChannel) → i ≡ slotOf (n / 16) → length (m .channels) ≡ 16
     → BegunBy (m .shared) (m .service) (getD (m .channels) i nothing) n bs b
     → cs ≡ firstEach (eachWritten (placed (b .place)) (b .word)) (b .count) (set (m .channels) i (b .channel))
-    → record { reply = b .reply; after = record { shared = b .shared; service = b .service; channels = cs } } ≡ writeOf m n bs
-ended m n bs i b cs e l h q = rw (q, e) (h .1 m refl refl l (ap (λ (j : ℕ). getD (m .channels) j nothing) (sym e)))
+    → d ≡ dataBy (m .shared) n bs (dataChannel m)
+    → record { reply = b .reply; after = moduleOf (b .shared) (b .service) cs d } ≡ writeOf m n bs
+ended m n bs i b cs d e l h q f = rw (q, e, f) (h .2 m refl refl l (ap (λ (j : ℕ). getD (m .channels) j nothing) (sym e)))

@@ -26,21 +26,24 @@ channel-after-requires c κs = let t = c .before .before in done _ _ _ _ _ _ (t 
 count-of-requires : tie.Need-count-of-requires
 count-of-requires c κs = search needs
 
+of-data-requires : tie.Need-of-data-requires
+of-data-requires c κs = search needs
+
 word-of-requires : tie.Need-word-of-requires
-word-of-requires c κs = let t = c .before .before .before .before in done _ _ _ _ _ _ (t .before .before .write-reply .ensures) (t .enum-told .given .1)
+word-of-requires c κs = let t = c .before .before .before .before .before in done _ _ _ _ _ _ (t .before .before .write-reply .ensures) (t .enum-told .given .1)
 
 enum-told-2 : tie.Need-enum-told-2
 enum-told-2 c = search needs
 
 returns : tie.Need-returns
 returns c =
-    let t = c .before .before .before .before .before in
+    let t = c .before .before .before .before .before .before in
     let w = t .before .before .write-reply in
     let p = t .before .before .before .place-of in
     let a = t .before .before .before .before .before .args in
-    begun-done (a .s) (a .v) (a .ch) (a .swno) (a .b .now) (p .result) (w .result) (p .ensures) (w .ensures) _ (t .enum-told .given .1) _ _ _ _ _
-    (c .before .before .before .before .shared-after .ensures) (c .before .before .before .service-after .ensures)
-    (c .before .before .channel-after .ensures) (c .before .count-of .ensures) (c .word-of .ensures)
+    begun-done (a .s) (a .v) (a .ch) (a .swno) (a .b .now) (p .result) (w .result) (p .ensures) (w .ensures) _ (t .enum-told .given .1) _ _ _ _ _ _
+    (c .before .before .before .before .before .shared-after .ensures) (c .before .before .before .before .service-after .ensures)
+    (c .before .before .before .channel-after .ensures) (c .before .before .count-of .ensures) (c .before .of-data .ensures) (c .word-of .ensures)
 
 returns-2 : tie.Need-returns-2
 returns-2 c =
@@ -60,6 +63,7 @@ begin-spec =
     service-after-requires
     channel-after-requires
     count-of-requires
+    of-data-requires
     word-of-requires
     enum-told-2
     returns

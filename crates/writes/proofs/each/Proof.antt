@@ -24,6 +24,9 @@ write-bit-requires c κs = search needs
 enum-told-2 : tie.Need-enum-told-2
 enum-told-2 c = search needs
 
+enum-told-3 : tie.Need-enum-told-3
+enum-told-3 c = search needs
+
 returns : tie.Need-returns
 returns c = simp (c .write-every .ensures, c .before .before .p .given .1)
 
@@ -36,6 +39,9 @@ returns-3 c = simp (c .write-bit .ensures, c .before .bit-of .ensures, c .before
 returns-4 : tie.Need-returns-4
 returns-4 c = simp (c .enum-told2 .given .1)
 
+returns-5 : tie.Need-returns-5
+returns-5 c = simp (c .enum-told3 .given .1)
+
 pub each-spec : {M : Type 1} → statement M
 each-spec =
     tie.close
@@ -47,7 +53,9 @@ each-spec =
     bit-of-requires
     write-bit-requires
     enum-told-2
+    enum-told-3
     returns
     returns-2
     returns-3
-    returns-4)
+    returns-4
+    returns-5)

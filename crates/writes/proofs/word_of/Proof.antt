@@ -21,6 +21,9 @@ word-from-requires c κs =
 enum-told-4 : tie.Need-enum-told-4
 enum-told-4 c = search needs
 
+enum-told-5 : tie.Need-enum-told-5
+enum-told-5 c = search needs
+
 returns : tie.Need-returns
 returns c = search needs
 
@@ -33,6 +36,9 @@ returns-3 c = simp (c .word-from .ensures, c .before .enum-told3 .given .1)
 returns-4 : tie.Need-returns-4
 returns-4 c = search needs
 
+returns-5 : tie.Need-returns-5
+returns-5 c = search needs
+
 pub word-of-spec : {M : Type 1} → statement M
 word-of-spec =
     tie.close
@@ -42,7 +48,9 @@ word-of-spec =
     enum-told-3
     word-from-requires
     enum-told-4
+    enum-told-5
     returns
     returns-2
     returns-3
-    returns-4)
+    returns-4
+    returns-5)

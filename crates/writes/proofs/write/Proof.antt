@@ -27,14 +27,17 @@ array-set-from-channels c = search needs
 first-each-requires : tie.Need-first-each-requires
 first-each-requires c κs = search needs
 
+data-after-requires : tie.Need-data-after-requires
+data-after-requires c κs = search needs
+
 returns : tie.Need-returns
 returns c =
-    let t = c .before .before .before .before in
-    let at = t .before .before .before .before .before .wire-slot in
-    let s = t .before .before .before .before .before .before .before in
+    let t = c .before .before .before .before .before in
+    let at = t .before .before .before .before .before .before .wire-slot in
+    let s = t .before .before .before .before .before .before .before .before in
     let l : length (s .args .m .channels) ≡ 16 = rw length-map at (s .good .0 .1 .1 .1 .1 .0 .1 .0 .1) in
-    ended (s .args .m) (s .args .swno) (s .args .b .now) (at .result) (t .begin .result) (c .first-each .result) (at .ensures .0) l (t .begin .ensures)
-    (c .first-each .ensures)
+    ended (s .args .m) (s .args .swno) (s .args .b .now) (at .result) (t .begin .result) (c .before .first-each .result) (c .data-after .result)
+    (at .ensures .0) l (t .begin .ensures) (c .before .first-each .ensures) (c .data-after .ensures)
 
 pub write-spec : {M : Type 1} → statement M
 write-spec =
@@ -47,4 +50,5 @@ write-spec =
     mul-channels
     array-set-from-channels
     first-each-requires
+    data-after-requires
     returns)

@@ -1,13 +1,14 @@
 //! Questions 1 to 7: what a wire call is asked before it acts.
 
-use super::bytes::{config, real};
+use super::bytes::{config, fixed, real};
+use crate::data::LookUp;
 use crate::reals;
-use crate::registers::{Access, Digital, Register, Service};
+use crate::registers::{Access, Data, Digital, Register, Service};
 
 /// "$FF resets."
 const RESET: u8 = 0xFF;
 
-/// "Wire: SWNo at most $11F? 1. Register listed? 2. [...] On a read, buffer
+/// "Wire: SWNo at most [$13F]? 1. Register listed? 2. [...] On a read, buffer
 /// long enough? 5."
 pub(super) fn question_read(swno: u16, lent: usize) -> Result<Register, u8> {
     let register = Register::find(swno)?;
@@ -44,6 +45,7 @@ fn is_allowed(register: Register, bytes: &[u8]) -> bool {
         Register::Service(register) => is_allowed_service(register, bytes),
         Register::Digital(_, register) => is_allowed_digital(register, bytes),
         Register::Common(_) => true,
+        Register::Data(register) => is_allowed_data(register, bytes),
     }
 }
 
@@ -72,5 +74,14 @@ fn is_allowed_digital(register: Digital, bytes: &[u8]) -> bool {
         | Digital::UserReals
         | Digital::Maintenance => true,
         Digital::ChError => false,
+    }
+}
+
+/// Change 1: "written Reals are finite", and "TimerA and TimerB as OutTimer".
+fn is_allowed_data(register: Data, bytes: &[u8]) -> bool {
+    match register {
+        Data::RealA | Data::RealB => reals::is_finite(real(bytes)),
+        Data::TimerA | Data::TimerB => reals::is_timer(real(bytes)),
+        Data::LookUp1 | Data::LookUp2 => LookUp::from_bytes(&fixed(bytes)).is_allowed(),
     }
 }

@@ -2,7 +2,7 @@
 
 use super::ChannelBox;
 use crate::reals::{self, Real};
-use crate::registers::{Common, Digital, Register, Service, HIGHEST_SWNO};
+use crate::registers::{Common, Data, Digital, Register, Service, HIGHEST_SWNO};
 
 impl ChannelBox {
     pub(super) fn bytes_of(&self, register: Register) -> Vec<u8> {
@@ -10,6 +10,7 @@ impl ChannelBox {
             Register::Service(register) => self.service_bytes(register),
             Register::Digital(index, register) => self.digital_bytes(index, register),
             Register::Common(register) => self.common_bytes(register),
+            Register::Data(register) => self.data_bytes(register),
         }
     }
 
@@ -33,15 +34,15 @@ impl ChannelBox {
             Digital::FlagReg => vec![channel.flag_reg(self.in_flags())],
             Digital::OutTimer => timer_bytes(channel.out_timer),
             Digital::Counter => channel.counter.to_be_bytes().to_vec(),
-            Digital::OutCurrent => current_bytes(channel.out_current),
+            Digital::OutCurrent => real_bytes(channel.out_current),
             Digital::OperatingTime => operating_bytes(channel.operating),
             Digital::UserBytes => channel.user_bytes.to_vec(),
             Digital::FbTimer => timer_bytes(channel.fb_timer),
             Digital::FbPreset => timer_bytes(kept.fb_preset),
             Digital::OutPreset => timer_bytes(kept.out_preset),
             Digital::ChConfig => kept.config.to_bytes().to_vec(),
-            Digital::MinCurrent => current_bytes(kept.min_current),
-            Digital::MaxCurrent => current_bytes(kept.max_current),
+            Digital::MinCurrent => real_bytes(kept.min_current),
+            Digital::MaxCurrent => real_bytes(kept.max_current),
             Digital::UserReals => kept.user_reals.to_vec(),
             Digital::Maintenance => kept.maintenance.to_vec(),
             // "ChError is His, 0, Act, 0."
@@ -57,6 +58,18 @@ impl ChannelBox {
             Common::ChError => self.common_ch_error().to_vec(),
         }
     }
+
+    fn data_bytes(&self, register: Data) -> Vec<u8> {
+        let data = &self.data;
+        match register {
+            Data::RealA => real_bytes(data.real_a),
+            Data::RealB => real_bytes(data.real_b),
+            Data::TimerA => timer_bytes(data.timer_a),
+            Data::TimerB => timer_bytes(data.timer_b),
+            Data::LookUp1 => data.kept.tables[0].to_bytes().to_vec(),
+            Data::LookUp2 => data.kept.tables[1].to_bytes().to_vec(),
+        }
+    }
 }
 
 fn timer_bytes(count: i32) -> Vec<u8> {
@@ -67,6 +80,6 @@ fn operating_bytes(count: u32) -> Vec<u8> {
     reals::from_operating_count(count).to_be_bytes().to_vec()
 }
 
-fn current_bytes(amperes: Real) -> Vec<u8> {
-    reals::as_read(amperes).to_be_bytes().to_vec()
+fn real_bytes(real: Real) -> Vec<u8> {
+    reals::as_read(real).to_be_bytes().to_vec()
 }

@@ -26,6 +26,10 @@ fn busy() -> Bench {
     bench.device.current(2, 0x4000_0001);
     bench.write(0x0D, &[1]);
     bench.write(0x15, &[1, 2, 3, 4]);
+    bench.write_word(0x130, reals::ONE);
+    bench.write_word(0x131, reals::TWO);
+    bench.write(0x13C, &[1; 80]);
+    bench.write(0x13D, &[2; 80]);
     bench.ticks(5);
     bench
 }

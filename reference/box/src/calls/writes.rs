@@ -3,8 +3,9 @@
 use super::bytes::{config, fixed, real};
 use super::ChannelBox;
 use crate::channel::Channel;
+use crate::data::LookUp;
 use crate::reals;
-use crate::registers::{Common, Digital, Register, Service};
+use crate::registers::{Common, Data, Digital, Register, Service};
 
 impl ChannelBox {
     pub(super) fn accept_write(&mut self, register: Register, bytes: &[u8]) {
@@ -12,6 +13,7 @@ impl ChannelBox {
             Register::Service(register) => self.write_service(register, bytes),
             Register::Digital(index, register) => self.write_digital(index, register, bytes),
             Register::Common(register) => self.write_common(register, bytes),
+            Register::Data(register) => self.write_data(register, bytes),
         }
     }
 
@@ -54,6 +56,20 @@ impl ChannelBox {
                 Common::InFlags => channel.simulate_in_flag(on),
                 Common::IoChError | Common::ChError => {}
             }
+        }
+    }
+
+    /// Change 1. The tables are protected, and so kept at once.
+    fn write_data(&mut self, register: Data, bytes: &[u8]) {
+        let keep = self.write_enable;
+        let data = &mut self.data;
+        match register {
+            Data::RealA => data.write_real_a(real(bytes), keep),
+            Data::RealB => data.write_real_b(real(bytes), keep),
+            Data::TimerA => data.timer_a = reals::to_timer_count(real(bytes)),
+            Data::TimerB => data.timer_b = reals::to_timer_count(real(bytes)),
+            Data::LookUp1 => data.kept.tables[0] = LookUp::from_bytes(&fixed(bytes)),
+            Data::LookUp2 => data.kept.tables[1] = LookUp::from_bytes(&fixed(bytes)),
         }
     }
 }

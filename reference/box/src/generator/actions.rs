@@ -2,6 +2,7 @@
 //! together.
 
 mod calm;
+mod data;
 mod ends;
 mod images;
 mod reads;
@@ -12,6 +13,7 @@ mod ticks;
 mod writes;
 
 pub use calm::*;
+pub use data::*;
 pub use ends::*;
 pub use images::*;
 pub use reads::*;
@@ -27,6 +29,7 @@ pub type Action = fn(&mut Script);
 
 const SERVICE: &[u16] = &[0x00, 0x03, 0x07, 0x08, 0x09, 0x0A, 0x0D, 0x0F];
 const COMMON: &[u16] = &[0x110, 0x111, 0x112, 0x11F];
+const DATA: &[u16] = &[0x130, 0x131, 0x13A, 0x13B, 0x13C, 0x13D];
 const DIGITAL: &[u16] = &[0, 1, 2, 3, 4, 5, 6, 7, 8, 9, 0xA, 0xB, 0xC, 0xD, 0xF];
 
 pub fn refocus(script: &mut Script) {

@@ -19,6 +19,7 @@ pub enum Kind {
     Reset,
     Ends,
     Save,
+    Tables,
     Mixed,
 }
 
@@ -35,6 +36,7 @@ pub const KINDS: &[(&str, Kind)] = &[
     ("reset", Kind::Reset),
     ("ends", Kind::Ends),
     ("save", Kind::Save),
+    ("tables", Kind::Tables),
     ("mixed", Kind::Mixed),
 ];
 
@@ -60,6 +62,7 @@ impl Kind {
 fn long_runs(script: &mut Script, kind: Kind) -> u32 {
     match kind {
         Kind::Save => 3,
+        Kind::Tables => 1,
         Kind::Mixed => u32::from(script.random.chance(1, 8)),
         _ => 0,
     }
@@ -133,8 +136,8 @@ struct Closing {
 fn closing(calls: usize) -> Closing {
     let (length, survey): (usize, Action) = match calls {
         0..=99 => (0, |_| {}),
-        100..=499 => (46, act::survey_focus),
-        _ => (253, act::survey_all),
+        100..=499 => (52, act::survey_focus),
+        _ => (259, act::survey_all),
     };
     Closing { length, survey }
 }

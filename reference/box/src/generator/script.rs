@@ -2,6 +2,8 @@
 
 use super::random::Random;
 use super::values::{self, Flavour};
+use crate::data::LookUp;
+use crate::image::Settings;
 use crate::player::Call;
 use crate::registers::{Access, Digital, Register};
 use crate::CHANNELS;
@@ -17,6 +19,8 @@ pub struct Script {
     pub focus: Vec<u8>,
     /// The ChConfig last written to each channel.
     configs: [Option<[u8; 4]>; CHANNELS],
+    /// The two lookup tables, as far as the writer knows them.
+    tables: [LookUp; 2],
     /// How many long runs of ticks may still come.
     pub long_runs: u32,
     /// The channels called since power-up, channel k at bit k−1.
@@ -33,6 +37,7 @@ impl Script {
             flavour: Flavour::Plain,
             focus: Vec::new(),
             configs: [None; CHANNELS],
+            tables: Default::default(),
             long_runs: 0,
             touched: 0,
             write_enable: false,
@@ -71,6 +76,7 @@ impl Script {
 
     pub fn power(&mut self, image: &[u8]) {
         self.calls.push(Call::Power(image.to_vec()));
+        self.tables = Settings::decode(image).unwrap_or_default().data.tables;
         self.touched = 0;
         self.restart();
     }
@@ -105,8 +111,22 @@ impl Script {
         match (swno, bytes) {
             (0x0D, [on @ 0..=1]) => self.write_enable = *on == 1,
             (0x03, [0xFF]) => self.restart(),
+            (0x13C | 0x13D, _) => self.remember_table(usize::from(swno - 0x13C), bytes),
             _ => self.remember_config(swno, bytes),
         }
+    }
+
+    fn remember_table(&mut self, index: usize, bytes: &[u8]) {
+        let table = bytes.try_into().map(LookUp::from_bytes);
+        match table {
+            Ok(table) if self.write_enable && table.is_allowed() => self.tables[index] = table,
+            _ => {}
+        }
+    }
+
+    /// Table 2, or table 1 for every other number.
+    pub fn table(&self, table: u8) -> LookUp {
+        self.tables[usize::from(table == 2)]
     }
 
     fn remember_config(&mut self, swno: u16, bytes: &[u8]) {
@@ -145,6 +165,10 @@ impl Script {
 
     pub fn current(&mut self, channel: u8, amperes: u32) {
         self.calls.push(Call::Current(channel, amperes));
+    }
+
+    pub fn lookup(&mut self, table: u8, x: u32) {
+        self.calls.push(Call::Lookup(table, x));
     }
 
     pub fn tick(&mut self, count: u64) {

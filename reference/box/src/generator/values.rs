@@ -1,9 +1,11 @@
-//! Random values: counts, Reals, configurations and images.
+//! Random values: counts, Reals, configurations, lookup tables and images.
 
+mod lookups;
 mod numbers;
 mod settings;
 mod suiting;
 
+pub use lookups::{table, x_for};
 pub use numbers::{current, end_count, end_real, limit, signed_time, small_count, time};
 pub use settings::{config, module_config, settings};
 pub use suiting::{flag_reg, suiting};

@@ -45,6 +45,8 @@ pub enum Call {
     Level(u8, bool),
     Current(u8, u32),
     Tick(u32),
+    /// Change 1: a table and X.
+    Lookup(u8, u32),
 }
 
 impl Call {
@@ -66,10 +68,9 @@ impl Call {
             }
             (b"read", [swno, lent]) => Ok(Call::Read(swno_of(swno)?, bytes(lent)?)),
             (b"write", [swno, value]) => Ok(Call::Write(swno_of(swno)?, bytes(value)?)),
-            (b"level", [channel, on]) => Ok(Call::Level(channel_of(channel)?, bit(on)?)),
-            (b"current", [channel, real]) => {
-                Ok(Call::Current(channel_of(channel)?, real_of(real)?))
-            }
+            (b"level", [channel, on]) => Ok(Call::Level(small(channel)?, bit(on)?)),
+            (b"current", [channel, real]) => Ok(Call::Current(small(channel)?, real_of(real)?)),
+            (b"lookup", [table, real]) => Ok(Call::Lookup(small(table)?, real_of(real)?)),
             (b"tick", []) => Ok(Call::Tick(1)),
             (b"tick", [count]) => {
                 let count = decimal(count, u64::from(u32::MAX))?;
@@ -102,19 +103,24 @@ impl Call {
                 }
                 Reply::Tick
             }
+            Call::Lookup(table, x) => {
+                let (number, real) = device.lookup(*table, *x);
+                Reply::Lookup(number, real)
+            }
         }
     }
 }
 
 /// "A wire call is for the channel of its SWNo, a sample for its own channel,
-/// refused ones included".
+/// refused ones included". Change 1: "Data calls are never strangers' calls":
+/// a wire call of $13 is for channel 19, a lookup for none.
 impl Call {
     /// The channel that a call is for, digital or not.
     pub fn channel(&self) -> Option<u16> {
         match self {
             Call::Read(swno, _) | Call::Write(swno, _) => Some(swno >> 4),
             Call::Level(channel, _) | Call::Current(channel, _) => Some(u16::from(*channel)),
-            Call::Power(_) | Call::Store(_) | Call::Tick(_) => None,
+            Call::Power(_) | Call::Store(_) | Call::Tick(_) | Call::Lookup(..) => None,
         }
     }
 
@@ -135,13 +141,14 @@ impl fmt::Display for Call {
             Call::Current(channel, real) => write!(formatter, "current {channel} {real:08x}"),
             Call::Tick(1) => write!(formatter, "tick"),
             Call::Tick(count) => write!(formatter, "tick {count}"),
+            Call::Lookup(table, x) => write!(formatter, "lookup {table} {x:08x}"),
         }
     }
 }
 
 fn is_name(word: &[u8]) -> bool {
-    let names: [&[u8]; 7] = [
-        b"power", b"store", b"read", b"write", b"level", b"current", b"tick",
+    let names: [&[u8]; 8] = [
+        b"power", b"store", b"read", b"write", b"level", b"current", b"tick", b"lookup",
     ];
     names.contains(&word)
 }
@@ -211,7 +218,8 @@ fn decimal(word: &[u8], highest: u64) -> Result<u64, Why> {
     number(&digits(word)?, 10, highest)
 }
 
-fn channel_of(word: &[u8]) -> Result<u8, Why> {
+/// A channel or a table.
+fn small(word: &[u8]) -> Result<u8, Why> {
     Ok(decimal(word, u64::from(u8::MAX))? as u8)
 }
 
@@ -231,13 +239,14 @@ mod tests {
     fn a_call_is_read_back_from_its_line() {
         for call in [
             Call::Power(vec![1, 0xAB]),
-            Call::Store(717),
+            Call::Store(886),
             Call::Read(0x11F, vec![]),
             Call::Write(0xFFFF, vec![0xFE]),
             Call::Level(255, true),
             Call::Current(16, 0x0000_0001),
             Call::Tick(1),
             Call::Tick(1_152_000),
+            Call::Lookup(255, 0x0000_000A),
         ] {
             let line = call.to_string();
             assert_eq!(Call::parse(line.as_bytes()), Ok(Some(call)), "{line}");
@@ -252,5 +261,8 @@ mod tests {
         assert_eq!(Call::Level(200, true).channel(), Some(200));
         assert_eq!(Call::Current(16, 0).channel(), Some(16));
         assert_eq!(Call::Tick(1).channel(), None);
+        assert_eq!(Call::Write(0x13D, vec![]).channel(), Some(19));
+        assert_eq!(Call::Lookup(1, 0).channel(), None);
+        assert!(Call::Read(0x130, vec![]).is_wire() && !Call::Lookup(1, 0).is_wire());
     }
 }

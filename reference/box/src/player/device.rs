@@ -15,6 +15,8 @@ pub trait Device {
     fn level(&mut self, channel: u8, on: bool) -> u8;
     fn current(&mut self, channel: u8, amperes: Real) -> u8;
     fn tick(&mut self);
+    /// Change 1: gives its number and the Real, 0 where it is refused.
+    fn lookup(&self, table: u8, x: Real) -> (u8, Real);
     /// Output of a channel, which no line of a script asks for; FALSE where
     /// there is no such channel.
     fn output(&self, channel: u8) -> bool;
@@ -47,6 +49,10 @@ impl Device for ChannelBox {
 
     fn tick(&mut self) {
         ChannelBox::tick(self);
+    }
+
+    fn lookup(&self, table: u8, x: Real) -> (u8, Real) {
+        ChannelBox::lookup(self, table, x)
     }
 
     fn output(&self, channel: u8) -> bool {

@@ -1,5 +1,6 @@
 //! What a call answers, as a line of the player's output.
 
+use crate::reals::Real;
 use crate::Answer;
 use std::fmt;
 
@@ -13,6 +14,7 @@ pub enum Reply {
     Level(u8),
     Current(u8),
     Tick,
+    Lookup(u8, Real),
 }
 
 impl fmt::Display for Reply {
@@ -35,6 +37,7 @@ impl fmt::Display for Reply {
             Reply::Level(number) => write!(formatter, "level {number}"),
             Reply::Current(number) => write!(formatter, "current {number}"),
             Reply::Tick => write!(formatter, "tick 0"),
+            Reply::Lookup(number, real) => write!(formatter, "lookup {number} {real:08x}"),
         }
     }
 }

@@ -69,9 +69,32 @@ fn the_common_channel_is_as_listed() {
     check(0x110, &rows);
 }
 
+/// Change 1: RealA, RealB, TimerA, TimerB, LookUp1 and LookUp2, "at the
+/// manual's numbers".
+#[test]
+fn the_data_channel_is_as_listed() {
+    let rows = [
+        (0x0, 'W', 4),
+        (0x1, 'W', 4),
+        (0xA, 'W', 4),
+        (0xB, 'W', 4),
+        (0xC, 'P', 80),
+        (0xD, 'P', 80),
+    ];
+    check(0x130, &rows);
+}
+
+/// Change 1: "SWNos of $12 answer 2."
+#[test]
+fn the_calculator_has_no_register() {
+    check(0x120, &[]);
+}
+
+/// Change 1: "The highest SWNo is $13F".
 #[test]
 fn above_the_highest_swno_comes_number_1() {
-    for swno in [0x120, 0x12F, 0x130, 0x1000, 0xFFFF] {
+    assert_eq!(Register::find(0x13F), Err(2));
+    for swno in [0x140, 0x14F, 0x150, 0x1000, 0x1130, 0xFFFF] {
         assert_eq!(Register::find(swno), Err(1));
     }
 }

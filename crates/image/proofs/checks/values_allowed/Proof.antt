@@ -1,6 +1,9 @@
 -- `checks::values_allowed` meets its contract. Assumes nothing.
 use borrow.Author.Needs.{needs}
-use Rattle.image.proofs.Laws.Sections.{values-at}
+use native.Mathlib.Omega.{arith}
+use lib.ListN.{take}
+use Rattle.model.specs.Image.{sections}
+use Rattle.image.proofs.Laws.Sections.{own-first, own-all, values-at}
 use Rattle.image.proofs.checks.values_allowed.Statement.{statement}
 use Rattle.image.proofs.checks.values_allowed.Tie as tie
 
@@ -30,8 +33,30 @@ entries-allowed-requires c κs = search needs
 
 returns : tie.Need-returns
 returns c =
-    let s = c .before .before .before .before .before in
-    rw (c .entries-allowed .ensures, c .before .before .module-allowed .ensures) (values-at (s .args .img .now) (s .pre))
+    let s = c .before .before .before .before .before .before in
+    let img = s .args .img .now in
+    rw (c .before .entries-allowed .ensures, c .before .before .before .module-allowed .ensures)
+    (values-at img (s .pre) (take 2 sections) (own-first img (s .pre) 2 (omega arith) (s .pre .least) (c .if1 .taken)))
+
+sub-data-allowed : tie.Need-sub-data-allowed
+sub-data-allowed c = search needs
+
+part-data-allowed-start : tie.Need-part-data-allowed-start
+part-data-allowed-start c = search needs
+
+part-data-allowed-end : tie.Need-part-data-allowed-end
+part-data-allowed-end c = search needs
+
+data-allowed-requires : tie.Need-data-allowed-requires
+data-allowed-requires c κs = search needs
+
+returns-2 : tie.Need-returns-2
+returns-2 c =
+    let e = c .before .before in
+    let s = e .before .before .before .before .before .before in
+    let img = s .args .img .now in
+    rw (c .data-allowed .ensures, e .before .entries-allowed .ensures, e .before .before .before .module-allowed .ensures)
+    (values-at img (s .pre) sections (own-all img (s .pre) (e .if1 .left)))
 
 pub values-allowed-spec : {M : Type 1} → statement M
 values-allowed-spec =
@@ -45,4 +70,9 @@ values-allowed-spec =
     part-entries-allowed-start
     part-entries-allowed-end
     entries-allowed-requires
-    returns)
+    returns
+    sub-data-allowed
+    part-data-allowed-start
+    part-data-allowed-end
+    data-allowed-requires
+    returns-2)

@@ -1,7 +1,9 @@
 -- `decode::box_of` meets its contract. Assumes nothing.
 use borrow.Author.Needs.{needs}
-use Rattle.model.specs.Image.{setupFrom, poweredUp}
-use Rattle.image.proofs.Laws.Sections.{decode-at}
+use native.Mathlib.Omega.{arith}
+use Rattle.model.specs.Image.{setupFrom, decode}
+use Rattle.model.specs.Restored.{poweredUp}
+use Rattle.image.proofs.Laws.Sections.{has, section-at}
 use Rattle.image.proofs.decode.box_of.Statement.{statement}
 use Rattle.image.proofs.decode.box_of.Tie as tie
 
@@ -29,11 +31,18 @@ part-channels-of-end c = search needs
 channels-of-requires : tie.Need-channels-of-requires
 channels-of-requires c κs = search needs
 
+image-data-requires : tie.Need-image-data-requires
+image-data-requires c κs = search needs
+
 returns : tie.Need-returns
-unfolding poweredUp setupFrom
+unfolding poweredUp decode setupFrom
 returns c =
-    let s = c .before .before .before .before .before .before in
-    rw (c .channels-of .ensures, c .before .before .before .shared-of .ensures, decode-at (s .args .img .now) (s .pre))
+    let s = c .before .before .before .before .before .before .before in
+    let img = s .args .img .now in
+    let two = has img (s .pre) 2 (omega arith) (s .pre .least) in
+    let module-at = section-at img (s .pre) 0 (omega (arith, two)) (omega arith) in
+    let channels-at = section-at img (s .pre) 1 (omega (arith, two)) (omega arith) in
+    rw (c .image-data .ensures, c .before .channels-of .ensures, c .before .before .before .before .shared-of .ensures, module-at, channels-at)
 
 pub box-of-spec : {M : Type 1} → statement M
 box-of-spec =
@@ -47,4 +56,5 @@ box-of-spec =
     part-channels-of-start
     part-channels-of-end
     channels-of-requires
+    image-data-requires
     returns)

@@ -7,7 +7,8 @@ use native.Mathlib.Numerals.{add-one}
 use native.Mathlib.Omega.{arith}
 use lib.ListN.{length, take, drop, getD}
 use borrow.Author.Tests.{lt-ltb, le-ltb}
-use Rattle.model.specs.Image.{entryFrom, entriesFrom, restored}
+use Rattle.model.specs.Image.{entryFrom, entriesFrom}
+use Rattle.model.specs.Restored.{restored}
 use Rattle.model.proofs.Laws.Filled.{filled, none, one-more, all, below, up}
 use Rattle.model.proofs.Images.Sequence.{entries-count}
 use Rattle.image.proofs.Laws.Entries.{entry-at}

@@ -5,12 +5,12 @@ use mathlib.Core.List.{_++_, map}
 use Prim.Native.Nat.{ℕ, _+_, _*_, _-_, _≤_}
 use native.Mathlib.Numerals.{add-one}
 use native.Mathlib.Omega.{arith}
-use lib.ListN.{length, take, getD, length-append, length-map, List·getD-map}
+use lib.ListN.{length, take, getD, length-map, List·getD-map}
 use lib.Seq.{take-length}
-use Rattle.image.specs.Parts.{pasted}
+use Rattle.buffers.specs.Pasted.{pasted}
 use Rattle.model.specs.State.{nothing}
 use Rattle.model.specs.Image.{Entry, entryOf, entryBytes, entriesBytes}
-use Rattle.image.proofs.Laws.Paste.{pasted-none, pasted-length, pasted-next}
+use Rattle.buffers.proofs.Laws.Paste.{pasted-none, pasted-length, pasted-on, pasted-as}
 use Rattle.image.proofs.Laws.Entries.{entries-more}
 use Rattle.image.proofs.encode.put_entries.Statement.{statement}
 use Rattle.image.proofs.encode.put_entries.Tie as tie
@@ -42,7 +42,9 @@ add-put-entry : tie.Need-add-put-entry Inv-loop μ-loop
 add-put-entry c = search needs
 
 put-entry-requires : tie.Need-put-entry-requires Inv-loop μ-loop
-put-entry-requires c κs = omega (arith, c .before .before .before .loop .inv .2, c .before .before .before .before .before .pre, c .before .before .loop-test .taken)
+put-entry-requires c κs =
+    let l = c .before .before .before in
+    omega (arith, l .loop .inv .2, l .before .before .pre, c .before .before .loop-test .taken)
 
 add-k : tie.Need-add-k Inv-loop μ-loop
 add-k c = search needs
@@ -52,24 +54,23 @@ loop-less c = search needs
 
 loop-again : tie.Need-loop-again Inv-loop μ-loop
 loop-again c =
-    let s = c .before .before .before .before .before .before .before .before in
-    let l = c .before .before .before .before .before .before .loop in
-    let k = l .k in
+    let l = c .before .before .before .before .before .before in
+    let s = l .before .before in
+    let k = l .loop .k in
     let buf = s .args .buf .now in
     let cs = s .args .t1 in
     let es = map entryOf cs in
     let n : length cs ≡ 16 = search (needs, s .good .0 .0) in
+    let low = c .before .before .before .before .before .loop-test .taken in
     let done = entriesBytes (take k es) in
     let e = entryBytes (entryOf (getD cs k nothing)) in
-    let put = c .before .before .put-entry .ensures in
+    let taken = ap (λ (x : Entry). done ++ entryBytes x) (sym (List·getD-map entryOf cs k nothing)) in
     let more : done ++ e ≡ entriesBytes (take (k + 1) es) =
-    rw add-one (ap (λ (x : Entry). done ++ entryBytes x) (sym (List·getD-map entryOf cs k nothing)) ∙ sym
-    (entries-more es k (entryOf nothing) (omega (arith, n, length-map cs entryOf, c .before .before .before .before .before .loop-test .taken)))) in
-    let long : length (done ++ e) ≡ 44 * (k + 1) = length-append done e ∙ omega (arith, put .1, l .inv .3) in
-    let step = pasted-next buf 10 done (10 + 44 * k) e (l .inv .1) (put .0) (omega (arith, l .inv .3))
-    (omega (arith, put .1, s .pre, c .before .before .before .before .before .loop-test .taken)) ∙ ap (pasted buf 10) more in
-    let grown : length (entriesBytes (take (k + 1) es)) ≡ 44 * (k + 1) = ap length (sym more) ∙ long in
-    (omega arith, step, ap length step ∙ pasted-length buf 10 _ (omega (arith, grown, s .pre, c .before .before .before .before .before .loop-test .taken)), grown)
+    rw add-one (taken ∙ sym (entries-more es k (entryOf nothing) (omega (arith, n, length-map cs entryOf, low)))) in
+    let next = pasted-on buf 10 done e (l .loop .inv .1, l .loop .inv .3) (c .before .before .put-entry .ensures) (omega (arith, s .pre, low)) in
+    let put = pasted-as buf 10 more next in
+    let long : length (entriesBytes (take (k + 1) es)) ≡ 44 * (k + 1) = put .1 ∙ omega arith in
+    (omega arith, put .0, ap length (put .0) ∙ pasted-length buf 10 _ (omega (arith, long, s .pre, low)), long)
 
 same-length : tie.Need-same-length Inv-loop μ-loop
 same-length c = c .before .loop .inv .2
@@ -82,7 +83,7 @@ returns c =
     let n : length (s .args .t1) ≡ 16 = search (needs, s .good .0 .0) in
     let e : l .k ≡ length es = omega (arith, n, length-map (s .args .t1) entryOf, c .loop-test .left, l .inv .0) in
     let whole : entriesBytes (take (l .k) es) ≡ entriesBytes es = ap (λ (j : ℕ). entriesBytes (take j es)) e ∙ ap entriesBytes (take-length es) in
-    (l .inv .1 ∙ ap (pasted (s .args .buf .now) 10) whole, ap length (sym whole) ∙ omega (arith, l .inv .3, e, n, length-map (s .args .t1) entryOf))
+    pasted-as (s .args .buf .now) 10 whole (l .inv .1, l .inv .3 ∙ omega (arith, e, n, length-map (s .args .t1) entryOf))
 
 pub put-entries-spec : {M : Type 1} → statement M
 put-entries-spec =

@@ -1,14 +1,9 @@
 -- `encode::put_entry` meets its contract. Assumes nothing.
 use borrow.Author.Needs.{needs}
-use mathlib.Core.Path.{_≡_, sym, ap, _∙_}
-use mathlib.Core.List.{_++_}
-use Prim.Native.Nat.{_+_}
-use native.Mathlib.Omega.{arith}
-use lib.ListN.{length, length-append}
-use Rattle.image.proofs.Laws.Paste.{pasted-next}
+use Rattle.buffers.proofs.Laws.Paste.{pasted-on, pasted-as}
 use Rattle.image.proofs.Laws.Halves.{halves}
 use Rattle.model.specs.Image.{entryOf}
-use Rattle.image.specs.Parts.{pasted, firstFive, lastFive}
+use Rattle.image.specs.Parts.{firstFive, lastFive}
 use Rattle.image.proofs.encode.put_entry.Statement.{statement}
 use Rattle.image.proofs.encode.put_entry.Tie as tie
 
@@ -23,18 +18,13 @@ same-length c = search needs
 
 returns : tie.Need-returns
 returns c =
-    let s = c .before .before .before .before .before .before .before .before .before in
+    let early = c .before .before .before .before .before .before in
+    let s = early .before .before .before in
     let buf = s .args .buf .now in
     let at = s .args .at in
     let e = entryOf (s .args .ch) in
-    let first = c .before .before .before .before .before .before .put-first-five .ensures in
-    let second = c .before .before .put-last-five .ensures in
-    let whole = halves e in
-    let long : length (firstFive e ++ lastFive e) ≡ 44 = length-append (firstFive e) (lastFive e) ∙ omega (arith, first .1, second .1) in (
-      pasted-next buf at (firstFive e) (at + 20) (lastFive e) (first .0) (second .0) (omega (arith, first .1)) (omega (arith, second .1, s .pre)) ∙ ap
-          (pasted buf at) whole,
-      ap length (sym whole) ∙ long,
-    )
+    let all = pasted-on buf at (firstFive e) (lastFive e) (early .put-first-five .ensures) (c .before .before .put-last-five .ensures) (s .pre) in
+    pasted-as buf at (halves e) all
 
 pub put-entry-spec : {M : Type 1} → statement M
 put-entry-spec =

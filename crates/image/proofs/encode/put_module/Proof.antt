@@ -1,12 +1,11 @@
 -- `encode::put_module` meets its contract. Assumes nothing.
 use borrow.Author.Needs.{needs}
-use Rattle.image.specs.Parts.{pasted, moduleFront}
-use mathlib.Core.Path.{_≡_, refl, sym, ap, _∙_}
+use Rattle.image.specs.Parts.{moduleFront}
+use mathlib.Core.Path.{_≡_, refl}
 use mathlib.Core.List.{[], _∷_, _++_}
 use Prim.Native.Nat.{_+_}
 use native.Mathlib.Omega.{arith}
-use lib.ListN.{length, length-append}
-use Rattle.image.proofs.Laws.Paste.{pasted-next}
+use Rattle.buffers.proofs.Laws.Paste.{pasted-on, pasted-as}
 use Rattle.image.proofs.encode.put_module.Statement.{statement}
 use Rattle.image.proofs.encode.put_module.Tie as tie
 
@@ -31,18 +30,17 @@ same-length c = search needs
 returns : tie.Need-returns
 unfolding moduleFront
 returns c =
-    let s = c .before .before .before .before .before .before .before .before .before .before .before .before .before .before .before in
+    let middle = c .before .before .before .before .before .before in
+    let early = middle .before .before .before .before in
+    let s = early .before .before .before .before .before in
     let buf = s .args .buf .now in
-    let config = c .before .before .before .before .before .before .before .before .before .before .before .before .before .config-bytes in
-    let preset = c .before .before .before .before .before .before .before .before .before .before .before .before .timer-bytes in
+    let config = early .before .before .before .config-bytes in
+    let preset = early .before .before .timer-bytes in
     let ab = config .result ++ preset .result in
-    let second = c .before .before .before .before .before .before .put-two .ensures in
-    let long : length ((1 ∷ ab) ++ (16 ∷ [])) ≡ 10 = length-append (1 ∷ ab) (16 ∷ []) ∙ omega (arith, second .1) in
+    let two = pasted-on buf 0 (1 ∷ []) ab (early .put-byte .ensures, refl) (middle .put-two .ensures) (omega (arith, s .pre)) in
+    let all = pasted-on buf 0 (1 ∷ ab) (16 ∷ []) two (c .before .before .put-byte2 .ensures, refl) (omega (arith, s .pre)) in
     let whole : (1 ∷ ab) ++ (16 ∷ []) ≡ moduleFront (s .args .s) = rw (config .ensures, preset .ensures) in
-    let two = pasted-next buf 0 (1 ∷ []) 1 ab (c .before .before .before .before .before .before .before .before .before .before .put-byte .ensures)
-    (second .0) refl (omega (arith, second .1, s .pre)) in
-    let all = pasted-next buf 0 (1 ∷ ab) 9 (16 ∷ []) two (c .before .before .put-byte2 .ensures) (omega (arith, second .1)) (omega (arith, s .pre)) in
-    (all ∙ ap (pasted buf 0) whole, ap length (sym whole) ∙ long)
+    pasted-as buf 0 whole all
 
 pub put-module-spec : {M : Type 1} → statement M
 put-module-spec =

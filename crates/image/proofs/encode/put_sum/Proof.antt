@@ -1,11 +1,12 @@
 -- `encode::put_sum` meets its contract. Assumes nothing.
 use borrow.Author.Needs.{needs}
-use Rattle.image.specs.Parts.{pasted}
+use Rattle.buffers.specs.Pasted.{pasted}
 use Rattle.integers.specs.Bytes.{bytesOf}
 use mathlib.Core.Path.{sym, ap, _∙_}
 use Prim.Native.Nat.{ℕ, _%_}
 use native.Mathlib.Omega.{arith}
 use lib.Seq.{length-take-le}
+use Rattle.model.specs.Image.{sections, sumPlace}
 use Rattle.image.proofs.encode.put_sum.Statement.{statement}
 use Rattle.image.proofs.encode.put_sum.Tie as tie
 
@@ -13,10 +14,10 @@ slice-reshare-prefix-sum : tie.Need-slice-reshare-prefix-sum
 slice-reshare-prefix-sum c = search needs
 
 slice-aggregate-sum : tie.Need-slice-aggregate-sum
-slice-aggregate-sum c = sym (length-take-le 715 (c .before .before .args .buf .now) (omega (arith, c .before .before .pre)))
+slice-aggregate-sum c = sym (length-take-le (sumPlace sections) (c .before .before .args .buf .now) (omega (arith, c .before .before .pre)))
 
 sum-requires : tie.Need-sum-requires
-sum-requires c κs = omega (arith, length-take-le 715 (c .before .before .args .buf .now) (omega (arith, c .before .before .pre)))
+sum-requires c κs = omega (arith, length-take-le (sumPlace sections) (c .before .before .args .buf .now) (omega (arith, c .before .before .pre)))
 
 cast-bytes-of-u16 : tie.Need-cast-bytes-of-u16
 cast-bytes-of-u16 c = search needs
@@ -35,9 +36,10 @@ same-length c = search needs
 
 returns : tie.Need-returns
 returns c =
-    let buf = c .before .before .before .before .before .before .before .before .before .args .buf .now in
-    c .before .before .put .ensures ∙ ap (pasted buf 715) (c .before .before .before .before .before .bytes-of-u16 .ensures ∙ ap
-    (λ (n : ℕ). bytesOf 2 (n % 65536)) (c .before .before .before .before .before .before .sum .ensures))
+    let told = c .before .before .before .before .before in
+    let buf = told .before .before .before .before .args .buf .now in
+    let sum = ap (λ (n : ℕ). bytesOf 2 (n % 65536)) (told .before .sum .ensures) in
+    c .before .before .put .ensures ∙ ap (pasted buf (sumPlace sections)) (told .bytes-of-u16 .ensures ∙ sum)
 
 pub put-sum-spec : {M : Type 1} → statement M
 put-sum-spec =

@@ -20,7 +20,8 @@ returns c =
     record {
       left = (e .box-is, c .pack .ensures ∙ ap answerCode (e .answer-is));
       learns-nothing = λ ok. e .learns-nothing (number ∙ ok);
-      stored-again = λ ok. e .stored-again (number ∙ ok);
+      stored-again = λ ok long. e .stored-again (number ∙ ok) long;
+      renewed = λ ok. e .renewed (number ∙ ok);
     }
 
 pub power-up-spec : {M : Type 1} → statement M

@@ -21,7 +21,7 @@ returns : tie.Need-returns
 returns c =
     let s = c .before .before .before .before .before .before .before .before .args in
     let r = c .before .before .before .before .before .read-changes in
-    read-left (s .s) (s .v) (s .ch) (s .w) (s .swno) (s .buf .now) (r .result) _ _ (r .ensures .0) (c .pack .ensures)
+    read-left (s .s) (s .v) (s .ch) (s .d) (s .w) (s .swno) (s .buf .now) (r .result) _ _ (r .ensures .0) (c .pack .ensures)
 
 pub read-spec : {M : Type 1} → statement M
 read-spec = tie.close (tie.spec read-changes-requires pack-requires same-length returns)

@@ -3,7 +3,7 @@ use borrow.Author.Needs.{needs}
 use lib.Ieee.{ofInt, ofBits}
 use mir.Facts.{toZ-ofZ}
 use mir.Syntax.{w32}
-use Rattle.model.specs.Image.{restored}
+use Rattle.model.specs.Restored.{restored}
 use Rattle.writes.proofs.reset.reset_channel.Statement.{statement}
 use Rattle.writes.proofs.reset.reset_channel.Tie as tie
 

@@ -12,6 +12,8 @@ pub struct Compared<'a> {
     pub number: &'a str,
     pub length: Option<&'a str>,
     pub buffer: Option<&'a str>,
+    /// Of a lookup, which belongs to no channel.
+    pub real: Option<&'a str>,
 }
 
 impl Compared<'_> {
@@ -22,17 +24,19 @@ impl Compared<'_> {
         if call.split(' ').next() != Some(name) {
             return None;
         }
-        let (number, length, buffer) = match (*name, words) {
-            ("read", [number, length, _, _, buffer]) => (number, Some(*length), Some(*buffer)),
-            ("write", [number, length, _, _]) => (number, Some(*length), None),
-            ("store", [number, length, buffer]) => (number, Some(*length), Some(*buffer)),
-            ("power" | "level" | "current" | "tick", [number]) => (number, None, None),
+        let (number, length, buffer, real) = match (*name, words) {
+            ("read", [number, length, _, _, buffer]) => (number, Some(length), Some(buffer), None),
+            ("write", [number, length, _, _]) => (number, Some(length), None, None),
+            ("store", [number, length, buffer]) => (number, Some(length), Some(buffer), None),
+            ("power" | "level" | "current" | "tick", [number]) => (number, None, None, None),
+            ("lookup", [number, real]) => (number, None, None, Some(real)),
             _ => return None,
         };
         Some(Compared {
             number,
-            length,
-            buffer,
+            length: length.copied(),
+            buffer: buffer.copied(),
+            real: real.copied(),
         })
     }
 }
@@ -45,6 +49,9 @@ impl fmt::Display for Compared<'_> {
         }
         if let Some(buffer) = self.buffer {
             write!(formatter, ", buffer {buffer}")?;
+        }
+        if let Some(real) = self.real {
+            write!(formatter, ", Real {real}")?;
         }
         Ok(())
     }
@@ -65,6 +72,9 @@ pub fn in_words(line: &str) -> String {
         Ok(Some(Call::Current(channel, _))) => {
             format!("the current for channel {channel} ({line})")
         }
+        Ok(Some(Call::Lookup(table, _))) => {
+            format!("the lookup in table {table} ({line})")
+        }
         Ok(Some(Call::Power(_))) => "the power-up".to_string(),
         Ok(Some(Call::Store(_))) => "the store".to_string(),
         _ => format!("the call {line}"),
@@ -76,6 +86,7 @@ fn register(swno: u16) -> String {
         Ok(Register::Service(name)) => format!("SWNo ${swno:X}, {name:?}"),
         Ok(Register::Digital(_, name)) => format!("SWNo ${swno:X}, {name:?}"),
         Ok(Register::Common(name)) => format!("SWNo ${swno:X}, {name:?}"),
+        Ok(Register::Data(name)) => format!("SWNo ${swno:X}, {name:?}"),
         Err(_) => format!("SWNo ${swno:X}, which is not listed"),
     }
 }

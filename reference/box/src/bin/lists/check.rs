@@ -2,6 +2,7 @@
 
 use crate::answers::{in_words, Compared};
 use crate::own::{Match, Matched, Own};
+use reference_box::image::LENGTH;
 
 /// The bytes of an image before the channels' entries.
 const BEFORE_ENTRIES: usize = 10;
@@ -204,7 +205,8 @@ fn same_entry(channel: usize, first: Compared, second: Compared) -> Result<(), S
 
 /// Some bytes of a stored image.
 fn kept_value(answer: Compared<'_>, from: usize, length: usize) -> Result<&str, String> {
-    let stored = answer.number == "0" && answer.length == Some("717");
+    let whole = answer.length == Some(LENGTH.to_string().as_str());
+    let stored = answer.number == "0" && whole;
     let image = answer.buffer.filter(|_| stored);
     image
         .and_then(|image| image.get(2 * from..2 * (from + length)))

@@ -138,6 +138,11 @@ mod tests {
             ("read 0 00", ""),
             ("read 110 00", "level 3 1"),
             ("read 130 00", "write 130 00"),
+            ("read 13c 00", ""),
+            ("read 120 00", ""),
+            ("lookup 1 00000000", ""),
+            ("lookup 1 00000000", "lookup 1 00000001"),
+            ("lookup 3 00000000", "lookup 4 00000000"),
         ] {
             let why = asked(first, second).expect_err(first);
             assert!(why.contains("not equal"), "{first}: {why}");
@@ -160,6 +165,9 @@ mod tests {
         assert!(asked("read 30 -, tick", "level 4 0, write 4e 00, tick").is_ok());
         assert!(asked("tick, read 30 00", "tick").is_ok());
         assert!(asked("write 130 -, read 30 00, tick", "write 130 -, tick").is_ok());
+        let lookup = "lookup 3 00000000, tick";
+        assert!(asked(lookup, &format!("level 3 1, {lookup}")).is_ok());
+        assert!(asked(lookup, &format!("read 30 00, {lookup}")).is_err());
         for (first, second) in [
             ("read 30 00, tick", "tick"),
             ("read 30 00, tick", "level 3 1, tick"),
@@ -174,6 +182,6 @@ mod tests {
     #[test]
     fn a_refused_image_and_what_stands_outside_lists_are_none() {
         assert!(ask(&[], 1, &[], &[]).is_err());
-        assert!(asked("store 717", "store 717").is_err());
+        assert!(asked("store 886", "store 886").is_err());
     }
 }

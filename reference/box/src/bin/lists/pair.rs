@@ -5,7 +5,6 @@ use reference_box::generator::actions::{self as act, Action};
 use reference_box::generator::random::Random;
 use reference_box::generator::script::Script;
 use reference_box::generator::values::{self, Flavour};
-use reference_box::image::LENGTH;
 use reference_box::player::Call;
 use reference_box::{ChannelBox, CHANNELS};
 
@@ -22,7 +21,8 @@ const FLAVOURS: &[Flavour] = &[
 ];
 
 /// What the first list does, with weights: no power-up and no storing, which
-/// "stand outside lists".
+/// "stand outside lists". Change 1: "Data calls are never strangers' calls", so
+/// those of the data channel, and lookups, stand in both lists.
 const ACTIONS: &[(u64, Action)] = &[
     (9, act::tick),
     (8, act::few_ticks),
@@ -68,12 +68,20 @@ const ACTIONS: &[(u64, Action)] = &[
     (4, act::refused_write),
     (3, act::refused_sample),
     (1, act::refused_between_ticks),
+    (2, act::lookup),
+    (1, act::refused_lookup),
+    (2, act::read_data),
+    (2, act::write_data),
+    (1, act::write_table),
+    (1, act::keep_data),
+    (1, act::count_data_timer),
+    (1, act::beside_data),
 ];
 
 /// Two lists for one image and one digital channel c.
 pub struct Pair {
     pub channel: u8,
-    pub image: [u8; LENGTH],
+    pub image: Vec<u8>,
     /// The strangers of c, in order.
     pub strangers: Vec<u8>,
     pub first: Vec<Call>,
@@ -117,9 +125,9 @@ fn some_others(random: &mut Random, channel: u8) -> Vec<u8> {
     (0..count).map(other).map(|other| other as u8).collect()
 }
 
-/// An image that power-up accepts, half of the time with a watchdog that runs
-/// out after a few ticks.
-fn image(script: &mut Script, channel: u8, others: &[u8]) -> [u8; LENGTH] {
+/// An image that power-up accepts, of either length, half of the time with a
+/// watchdog that runs out after a few ticks.
+fn image(script: &mut Script, channel: u8, others: &[u8]) -> Vec<u8> {
     let focus = [&[channel], others].concat();
     let flavour = script.random.pick(FLAVOURS);
     let random = &mut script.random;
@@ -128,7 +136,14 @@ fn image(script: &mut Script, channel: u8, others: &[u8]) -> [u8; LENGTH] {
         settings.module_config.functions = 0;
         settings.wd_preset = random.within(8, 80) as i32;
     }
-    settings.encode()
+    let image = match random.below(4) {
+        0 => settings.encode_old().to_vec(),
+        _ => settings.encode().to_vec(),
+    };
+    // The script knows the tables from then on.
+    script.power(&image);
+    script.take_calls();
+    image
 }
 
 /// The first list: stretches of calls for c, for others, or for all of them.

@@ -35,7 +35,7 @@ const ACTIONS: &[(u64, Action)] = &[
 ];
 
 /// Calls of which one may stand alone between ticks: wire calls that need no
-/// other, samples, and none.
+/// other, samples, a lookup (which is no wire call), and none.
 pub const LONE_CALLS: &[(u64, Action)] = &[
     (2, act::read_state),
     (1, act::write_flag_reg),
@@ -43,6 +43,7 @@ pub const LONE_CALLS: &[(u64, Action)] = &[
     (2, refused_here),
     (1, act::level),
     (1, act::current),
+    (1, act::lookup),
     (3, |_| {}),
 ];
 

@@ -33,7 +33,8 @@ fn samples_and_ticks_neither_clear_nor_preset() {
     bench.ticks(1);
     bench.device.level(1, true);
     bench.device.current(1, 0);
-    bench.device.store(&mut [0; 717]);
+    bench.device.store(&mut [0; image::LENGTH]);
+    bench.device.lookup(1, 0);
     assert_eq!((bench.device.act, bench.device.wd_timer), (RUN_OUT, 0));
 }
 

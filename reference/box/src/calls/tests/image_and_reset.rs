@@ -20,12 +20,18 @@ fn power_up_restores_and_presets() {
         operating: 6,
         ..Kept::default()
     };
+    settings.data.real_a = reals::ONE;
+    settings.data.real_b = reals::TWO;
+    settings.data.tables[1].0[9].y = 3;
     let bench = Bench::with(settings);
     assert_eq!(bench.device.wd_timer, 99);
     assert_eq!((bench.device.his, bench.device.act), (INTERNAL_RESET, 0));
     let channel = &bench.device.channels[6];
     assert_eq!((channel.counter, channel.operating), (-5, 6));
     assert_eq!(channel.user_bytes, [1, 2, 3, 4]);
+    let data = &bench.device.data;
+    assert_eq!((data.real_a, data.real_b), (reals::ONE, reals::TWO));
+    assert_eq!((data.timer_a, data.timer_b), (0, 0));
     assert_eq!(bench.device.kept(), settings);
 }
 
@@ -72,6 +78,27 @@ fn a_stored_image_powers_up_to_the_kept_values() {
     assert_eq!(second.power_up(&image), 0);
     assert_eq!(second.kept(), bench.device.kept());
     assert_eq!(stored(&second), image);
+}
+
+/// Change 1: "Images of 717 bytes load with zeros there, and storing writes
+/// the long one [...]; only an image of that length comes back as the same
+/// bytes."
+#[test]
+fn an_old_image_is_stored_as_a_long_one() {
+    let old = busy().device.kept().encode_old();
+    let mut device = ChannelBox::default();
+    assert_eq!(device.power_up(&old), 0);
+    assert_eq!(device.data, DataChannel::default());
+    let long = stored(&device);
+    assert_eq!(long[..714], old[..714]);
+    assert_eq!(
+        long[714..],
+        [&[1][..], &[0; 168], &[1], &long[884..]].concat()
+    );
+    let mut again = ChannelBox::default();
+    assert_eq!(again.power_up(&long), 0);
+    assert_eq!(again, device);
+    assert_eq!(stored(&again), long);
 }
 
 #[test]

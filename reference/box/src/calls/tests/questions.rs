@@ -6,8 +6,14 @@ use super::*;
 fn a_refused_read_leaves_buffer_and_box() {
     let mut bench = busy();
     for (swno, length, number) in [
-        (0x120, 12, 1),
+        (0x140, 12, 1),
         (0xFFFF, 0, 1),
+        (0x120, 12, 2),
+        (0x12F, 0, 2),
+        (0x132, 80, 2),
+        (0x13F, 4, 2),
+        (0x130, 3, 5),
+        (0x13D, 79, 5),
         (0x01, 12, 2),
         (0x0E, 0, 2),
         (0x1E, 12, 2),
@@ -31,8 +37,16 @@ fn a_refused_read_leaves_buffer_and_box() {
 fn a_refused_write_leaves_the_box() {
     let mut bench = busy();
     bench.write(0x0D, &[0]);
-    let refusals: [(u16, &[u8], u8); 14] = [
-        (0x120, &[], 1),
+    let refusals: [(u16, &[u8], u8); 22] = [
+        (0x140, &[], 1),
+        (0x120, &[], 2),
+        (0x12D, &[1], 2),
+        (0x139, &[0; 4], 2),
+        (0x13E, &[0; 4], 2),
+        (0x130, &[0; 3], 4),
+        (0x13C, &[0xFF; 79], 4),
+        (0x13C, &[0xFF; 80], 6),
+        (0x131, &[0xFF; 4], 7),
         (0x0B, &[0], 2),
         (0x00, &[], 3),
         (0x07, &[0; 4], 3),
@@ -97,15 +111,18 @@ fn samples_have_their_own_numbers() {
     assert_eq!(bench.device.level(16, true), 0);
 }
 
+/// Change 1: "storing writes the long one and needs its length".
 #[test]
-fn storing_wants_717_bytes() {
+fn storing_wants_886_bytes() {
     let bench = busy();
-    let mut short = [LENT; 716];
-    assert_eq!(bench.device.store(&mut short), (14, 0));
-    assert_eq!(short, [LENT; 716]);
-    let mut long = [LENT; 720];
-    assert_eq!(bench.device.store(&mut long), (0, 717));
-    assert_eq!(long[717..], [LENT; 3]);
+    for length in [0, 717, 885] {
+        let mut short = vec![LENT; length];
+        assert_eq!(bench.device.store(&mut short), (14, 0));
+        assert_eq!(short, vec![LENT; length]);
+    }
+    let mut long = [LENT; 889];
+    assert_eq!(bench.device.store(&mut long), (0, 886));
+    assert_eq!(long[886..], [LENT; 3]);
 }
 
 #[test]
@@ -113,5 +130,5 @@ fn bytes_past_an_answer_are_unchanged() {
     let mut bench = Bench::watchdog_off();
     let (answer, buffer) = read_into(&mut bench, 0x00, 5);
     assert_eq!(answer.length, 2);
-    assert_eq!(buffer, [0x01, 0x1F, LENT, LENT, LENT]);
+    assert_eq!(buffer, [0x01, 0x3F, LENT, LENT, LENT]);
 }

@@ -5,7 +5,7 @@ use super::*;
 #[test]
 fn service_registers_read_as_listed() {
     let mut bench = with_watchdog(256);
-    assert_eq!(bench.read(0x00, 2), [0x01, 0x1F]);
+    assert_eq!(bench.read(0x00, 2), [0x01, 0x3F]);
     assert_eq!(bench.read(0x03, 1), [0]);
     bench.ticks(3);
     assert_eq!(bench.read(0x07, 4), [0, 0, 0, 24]);

@@ -1,6 +1,6 @@
 //! Reads.
 
-use super::{COMMON, DIGITAL, SERVICE};
+use super::{COMMON, DATA, DIGITAL, SERVICE};
 use crate::generator::script::Script;
 
 /// The registers that show most: FlagReg, ChError and the timers.
@@ -11,9 +11,10 @@ pub fn read_state(script: &mut Script) {
 }
 
 pub fn read_any(script: &mut Script) {
-    let swno = match script.random.below(6) {
+    let swno = match script.random.below(7) {
         0 => script.random.pick(SERVICE),
         1 => script.random.pick(COMMON),
+        2 => script.random.pick(DATA),
         _ => {
             let register = script.random.pick(DIGITAL);
             script.digital(register)

@@ -1,10 +1,11 @@
 //! Refusals: questions that are answered with no, most often.
 
+use super::data::write_end_data;
 use super::ends::{write_end_current, write_end_time, write_end_watchdog};
 use super::reads::read_errors;
 use super::ticks::few_ticks;
 use super::writes::any_writable;
-use super::{COMMON, DIGITAL, SERVICE};
+use super::{COMMON, DATA, DIGITAL, SERVICE};
 use crate::generator::script::Script;
 use crate::generator::values;
 use crate::registers::{Register, HIGHEST_SWNO};
@@ -23,17 +24,23 @@ fn beyond(script: &mut Script) -> u16 {
     let first = u64::from(HIGHEST_SWNO) + 1;
     match script.random.below(3) {
         0 => script.random.within(first, first + 0x20) as u16,
-        1 => script.random.pick(&[0x120, 0x130, 0x1000, 0x1010, 0xFFFF]),
+        1 => script
+            .random
+            .pick(&[0x140, 0x150, 0x1000, 0x1010, 0x1130, 0xFFFF]),
         _ => script.random.within(first, 0xFFFF) as u16,
     }
 }
 
 fn unlisted(script: &mut Script) -> u16 {
-    match script.random.below(3) {
+    match script.random.below(5) {
         0 => script
             .random
             .pick(&[0x01, 0x02, 0x04, 0x05, 0x06, 0x0B, 0x0C, 0x0E]),
         1 => script.random.within(0x113, 0x11E) as u16,
+        2 => script.random.within(0x120, 0x12F) as u16,
+        3 => script
+            .random
+            .pick(&[0x132, 0x133, 0x134, 0x136, 0x137, 0x139, 0x13E, 0x13F]),
         _ => script.digital(0xE),
     }
 }
@@ -46,9 +53,10 @@ fn read_into_short_buffer(script: &mut Script) {
 }
 
 fn any_listed(script: &mut Script) -> u16 {
-    match script.random.below(4) {
+    match script.random.below(5) {
         0 => script.random.pick(SERVICE),
         1 => script.random.pick(COMMON),
+        2 => script.random.pick(DATA),
         _ => {
             let register = script.random.pick(DIGITAL);
             script.digital(register)
@@ -100,7 +108,9 @@ fn write_of_wrong_length(script: &mut Script) {
 fn write_unprepared(script: &mut Script) {
     let register = script.random.pick(&[7, 8, 9, 0xA, 0xB, 0xC, 0xD]);
     let digital = script.digital(register);
-    let swno = script.random.pick(&[0x09, 0x0A, digital, digital, digital]);
+    let swno = script
+        .random
+        .pick(&[0x09, 0x0A, 0x13C, 0x13D, digital, digital, digital]);
     let bytes = values::suiting(&mut script.random, swno, &script.focus, script.flavour);
     script.write(0x0D, &[0]);
     script.write(swno, &bytes);
@@ -108,7 +118,7 @@ fn write_unprepared(script: &mut Script) {
 
 /// A value that doesn't suit, most often.
 fn write_unsuiting(script: &mut Script) {
-    match script.random.below(8) {
+    match script.random.below(9) {
         0 => {
             let byte = script.random.pick(&[0x00, 0x01, 0x7F, 0xFE]);
             script.write(0x03, &[byte]);
@@ -130,6 +140,7 @@ fn write_unsuiting(script: &mut Script) {
         4 => write_wild_config(script),
         5 => write_end_watchdog(script),
         6 => write_end_current(script),
+        7 => write_end_data(script),
         _ => write_end_time(script),
     }
 }
@@ -182,6 +193,8 @@ pub fn refused_sample(script: &mut Script) {
 }
 
 pub fn refused_store(script: &mut Script) {
-    let length = script.random.pick(&[0, 1, 10, 715, 716]);
+    let length = script
+        .random
+        .pick(&[0, 1, 10, 716, 717, 718, 884, 885, 885]);
     script.store(length);
 }

@@ -1,6 +1,6 @@
 //! Surveys: every register of a channel, of the focus or of the box.
 
-use super::{COMMON, DIGITAL, SERVICE};
+use super::{COMMON, DATA, DIGITAL, SERVICE};
 use crate::generator::script::Script;
 use crate::image::LENGTH;
 
@@ -16,10 +16,17 @@ fn survey_channel(script: &mut Script, channel: u8) {
     }
 }
 
+/// Every register of the data channel.
+pub fn survey_data(script: &mut Script) {
+    for &swno in DATA {
+        script.read_register(swno);
+    }
+}
+
 /// The end of a script: the image, then every register of the box.
 pub fn survey_all(script: &mut Script) {
     script.store(LENGTH);
-    for &swno in COMMON.iter().chain(SERVICE) {
+    for &swno in COMMON.iter().chain(SERVICE).chain(DATA) {
         script.read_register(swno);
     }
     for channel in 1..=16 {
@@ -32,5 +39,6 @@ pub fn survey_focus(script: &mut Script) {
     for channel in script.focus.clone() {
         survey_channel(script, channel);
     }
+    survey_data(script);
     script.store(LENGTH);
 }

@@ -31,7 +31,9 @@ pub fn save(script: &mut Script) {
     script.long_runs -= 1;
     script.write(0x0D, &[0]);
     let swno = script.digital(5);
-    script.write_suiting(swno);
+    for swno in [swno, 0x130, 0x131] {
+        script.write_suiting(swno);
+    }
     let before = script.random.below(4);
     let count = script.ticks_to_save();
     script.tick(count.saturating_sub(before).max(1));

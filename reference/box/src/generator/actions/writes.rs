@@ -1,5 +1,6 @@
 //! Writes, mostly of values that suit.
 
+use super::DATA;
 use crate::generator::script::Script;
 
 pub fn write_flag_reg(script: &mut Script) {
@@ -101,9 +102,10 @@ pub fn write_any(script: &mut Script) {
 
 /// Any writable register but Reset.
 pub(super) fn any_writable(script: &mut Script) -> u16 {
-    match script.random.below(8) {
+    match script.random.below(9) {
         0 => script.random.pick(&[0x08, 0x09, 0x0A, 0x0D, 0x0F]),
         1 => script.random.pick(&[0x110, 0x111]),
+        2 => script.random.pick(DATA),
         _ => {
             let register = script.random.below(14) as u16;
             script.digital(register)

@@ -1,8 +1,10 @@
 //! Configurations, and the settings of an image.
 
+use super::lookups::{finite, table};
 use super::numbers::{count, limit, preset, small_count};
 use super::Flavour;
 use crate::channel::{Config, Kept};
+use crate::data::KeptData;
 use crate::generator::random::Random;
 use crate::image::Settings;
 
@@ -85,6 +87,22 @@ fn entry(random: &mut Random, own: u8, focus: &[u8], flavour: Flavour) -> Kept {
     }
 }
 
+/// The data channel's section, whose tables now and then are empty.
+fn data(random: &mut Random) -> KeptData {
+    let full = random.chance(7, 8);
+    KeptData {
+        real_a: finite(random),
+        real_b: finite(random),
+        tables: [(); 2].map(|()| {
+            if full {
+                table(random)
+            } else {
+                Default::default()
+            }
+        }),
+    }
+}
+
 /// Settings that power-up accepts. In two of three, the channels outside the
 /// focus are simulated inputs, so that the box-wide errors are not always set.
 pub fn settings(random: &mut Random, focus: &[u8], flavour: Flavour) -> Settings {
@@ -93,6 +111,7 @@ pub fn settings(random: &mut Random, focus: &[u8], flavour: Flavour) -> Settings
         module_config: Config::from_bytes(module_config(random, flavour)),
         wd_preset: wd_preset(random, flavour),
         channels: std::array::from_fn(|index| entry(random, index as u8 + 1, focus, flavour)),
+        data: data(random),
     };
     for (kept, own) in settings.channels.iter_mut().zip(1..) {
         if quiet && !focus.contains(&own) {

@@ -1,5 +1,6 @@
 //! Bytes that suit a register.
 
+use super::lookups::{finite, table};
 use super::numbers::{count, current, limit, signed_time, time};
 use super::settings::{config, module_config, wd_preset};
 use super::Flavour;
@@ -12,6 +13,7 @@ pub fn suiting(random: &mut Random, swno: u16, focus: &[u8], flavour: Flavour) -
     match (swno >> 4, swno & 0xF) {
         (0, register) => suiting_service(random, register, flavour),
         (17, _) => random.bytes(2),
+        (19, register) => suiting_data(random, register),
         (channel, register) => suiting_digital(random, channel as u8, register, focus, flavour),
     }
 }
@@ -48,6 +50,16 @@ fn suiting_digital(
         0x9 => u32::from_be_bytes(config(random, own, focus, flavour)),
         0xA | 0xB => limit(random),
         _ => random.word(),
+    };
+    word.to_be_bytes().to_vec()
+}
+
+/// Change 1: the data channel.
+fn suiting_data(random: &mut Random, register: u16) -> Vec<u8> {
+    let word = match register {
+        0xC | 0xD => return table(random).to_bytes().to_vec(),
+        0xA | 0xB => signed_time(random),
+        _ => finite(random),
     };
     word.to_be_bytes().to_vec()
 }

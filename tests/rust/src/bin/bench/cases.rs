@@ -2,7 +2,9 @@
 
 use crate::sides::Side;
 use reference_box::channel::{flag, Config, Kept};
+use reference_box::data::{KeptData, LookUp, Pair};
 use reference_box::image::{Settings, LENGTH};
+use reference_box::registers::LONGEST;
 use reference_box::CHANNELS;
 use std::hint::black_box;
 
@@ -11,7 +13,8 @@ use std::hint::black_box;
 pub enum Start {
     /// The watchdog off, all other settings zero.
     Idle,
-    /// All sixteen channels running a duty cycle, with two references each.
+    /// All sixteen channels running a duty cycle, with two references each, and
+    /// a rising LookUp1.
     Busy,
 }
 
@@ -23,6 +26,7 @@ pub enum Work {
     Write(u16, &'static [u8]),
     Level,
     Current,
+    LookUp,
     PowerUp,
     Store,
 }
@@ -35,6 +39,7 @@ pub const CASES: &[(&str, Start, Work)] = &[
     ("read Counter ($12)", Start::Busy, Work::Read(0x12)),
     ("read ChError ($1F)", Start::Busy, Work::Read(0x1F)),
     ("read CommonError ($F)", Start::Busy, Work::Read(0x0F)),
+    ("read LookUp1 ($13C)", Start::Busy, Work::Read(0x13C)),
     (
         "write FlagReg",
         Start::Busy,
@@ -47,8 +52,9 @@ pub const CASES: &[(&str, Start, Work)] = &[
     ),
     ("level, alternating", Start::Busy, Work::Level),
     ("current", Start::Busy, Work::Current),
-    ("power-up, 717 bytes", Start::Busy, Work::PowerUp),
-    ("store, 717 bytes", Start::Busy, Work::Store),
+    ("lookup, in the middle", Start::Busy, Work::LookUp),
+    ("power-up, 886 bytes", Start::Busy, Work::PowerUp),
+    ("store, 886 bytes", Start::Busy, Work::Store),
 ];
 
 /// ChConfig of channel 1 in the busy box.
@@ -71,14 +77,37 @@ fn busy_channel(channel: u8) -> Kept {
     }
 }
 
+/// A LookUp1 whose X are 1 to 10, and whose Y their squares.
+fn busy_data() -> KeptData {
+    let pair = |index| {
+        let x = index as f32 + 1.0;
+        Pair {
+            x: x.to_bits(),
+            y: (x * x).to_bits(),
+        }
+    };
+    KeptData {
+        tables: [LookUp(std::array::from_fn(pair)), LookUp::default()],
+        ..KeptData::default()
+    }
+}
+
+/// An X between the fifth and the sixth entry.
+const MIDDLE: f32 = 5.3;
+
 /// The setup image of a start, in both with the watchdog off.
 pub fn image(start: Start) -> [u8; LENGTH] {
+    let (channels, data) = match start {
+        Start::Idle => ([Kept::default(); CHANNELS], KeptData::default()),
+        Start::Busy => {
+            let channel = |index| busy_channel(index as u8 + 1);
+            (std::array::from_fn(channel), busy_data())
+        }
+    };
     let settings = Settings {
         module_config: Config::from_bytes([0, 0x10, 0, 0]),
-        channels: match start {
-            Start::Idle => [Kept::default(); CHANNELS],
-            Start::Busy => std::array::from_fn(|index| busy_channel(index as u8 + 1)),
-        },
+        channels,
+        data,
         ..Settings::default()
     };
     settings.encode()
@@ -101,7 +130,7 @@ pub fn prepared<S: Side>(start: Start) -> S {
 /// Makes the call so many times. Arguments pass through `black_box`, so that
 /// nothing is worked out once for all calls.
 pub fn repeat<S: Side>(side: &mut S, work: Work, times: u32) {
-    let mut buffer = [0; 12];
+    let mut buffer = [0; LONGEST];
     let mut room = [0; LENGTH];
     let image = image(Start::Busy);
     match work {
@@ -118,6 +147,9 @@ pub fn repeat<S: Side>(side: &mut S, work: Work, times: u32) {
         Work::Current => (0..times).for_each(|_| {
             side.current(black_box(4), black_box(0.5));
         }),
+        Work::LookUp => (0..times).for_each(|_| {
+            side.look_up(black_box(1), black_box(MIDDLE));
+        }),
         Work::PowerUp => (0..times).for_each(|_| side.power_up(black_box(&image))),
         Work::Store => (0..times).for_each(|_| side.store(black_box(&mut room))),
     }
@@ -132,10 +164,11 @@ mod tests {
     fn make(module: &mut Pd3120, work: Work) -> Result<(), Error> {
         match work {
             Work::Tick => module.tick(),
-            Work::Read(swno) => drop(module.read(swno, &mut [0; 12])?),
+            Work::Read(swno) => drop(module.read(swno, &mut [0; LONGEST])?),
             Work::Write(swno, bytes) => drop(module.write(swno, bytes)?),
             Work::Level => module.level(4, true)?,
             Work::Current => module.current(4, 0.5)?,
+            Work::LookUp => drop(module.look_up(1, MIDDLE)?),
             Work::PowerUp => module.power_up_again(&image(Start::Busy))?,
             Work::Store => drop(module.store(&mut [0; LENGTH])?),
         }
@@ -148,6 +181,14 @@ mod tests {
             let Library(mut module) = prepared(start);
             assert_eq!(make(&mut module, work), Ok(()), "{name}");
         }
+    }
+
+    /// 25 + 11 · 0.3, rounded as it goes.
+    #[test]
+    fn the_lookup_that_is_measured_is_between_two_entries() {
+        let Library(module) = prepared(Start::Busy);
+        let level = module.look_up(1, MIDDLE).expect("a finite X");
+        assert!((28.299..28.301).contains(&level), "{level}");
     }
 
     #[test]

@@ -14,6 +14,7 @@ pub trait Side: Clone + Default {
     fn write(&mut self, swno: u16, bytes: &[u8]);
     fn level(&mut self, channel: u8, on: bool);
     fn current(&mut self, channel: u8, amperes: f32);
+    fn look_up(&self, table: u8, x: f32);
     fn tick(&mut self);
 
     /// The kept values, by which both sides are seen to have done the same.
@@ -51,6 +52,10 @@ impl Side for Library {
 
     fn current(&mut self, channel: u8, amperes: f32) {
         let _ = black_box(self.0.current(channel, amperes));
+    }
+
+    fn look_up(&self, table: u8, x: f32) {
+        let _ = black_box(self.0.look_up(table, x));
     }
 
     fn tick(&mut self) {
@@ -93,6 +98,11 @@ impl Side for Model {
     #[inline(never)]
     fn current(&mut self, channel: u8, amperes: f32) {
         black_box(self.0.current(channel, amperes.to_bits()));
+    }
+
+    #[inline(never)]
+    fn look_up(&self, table: u8, x: f32) {
+        black_box(self.0.lookup(table, x.to_bits()));
     }
 
     #[inline(never)]

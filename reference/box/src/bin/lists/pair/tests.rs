@@ -1,5 +1,7 @@
 use super::*;
+use crate::answers::Compared;
 use crate::second::is_for;
+use reference_box::image::{LENGTH, OLD_LENGTH};
 use std::collections::BTreeSet;
 
 /// How many of 400 pairs have something.
@@ -92,4 +94,58 @@ fn a_long_pair_goes_through_the_save() {
     };
     assert!(ticks(&pair.first) >= 1_152_000);
     assert_eq!(ticks(&pair.first), ticks(&pair.second));
+}
+
+/// The answers to the data channel's calls and the lookups of a list, without
+/// the two error bits.
+fn data_answers(image: &[u8], list: &[Call]) -> Vec<String> {
+    let mut device = ChannelBox::default();
+    device.power_up(image);
+    let mut answers = Vec::new();
+    for call in list {
+        let answer = call.make(&mut device).to_string();
+        if matches!(call, Call::Lookup(..)) || call.channel() == Some(19) {
+            let line = call.to_string();
+            let compared = Compared::of(&line, &answer).expect("an answer");
+            answers.push(compared.to_string());
+        }
+    }
+    answers
+}
+
+/// Not owed by demand 3, which is about c's own calls; but no stranger's call
+/// moves the data channel.
+#[test]
+fn data_calls_learn_nothing_of_strangers() {
+    let mut all = Vec::new();
+    for seed in 0..400 {
+        let pair = Pair::draw(seed, false);
+        let answers = data_answers(&pair.image, &pair.first);
+        assert_eq!(answers, data_answers(&pair.image, &pair.second), "{seed}");
+        all.extend(answers);
+    }
+    for number in ["0", "2", "4", "5", "6", "7", "15"] {
+        let start = format!("number {number}, ");
+        assert!(all.iter().any(|answer| answer.starts_with(&start)));
+    }
+}
+
+#[test]
+fn images_have_either_length() {
+    let old = pairs_with(|pair| pair.image.len() == OLD_LENGTH);
+    let long = pairs_with(|pair| pair.image.len() == LENGTH);
+    assert!(old > 50 && long > 200 && old + long == 400);
+}
+
+/// Lookups stand between ticks that have no wire call since the tick before.
+#[test]
+fn lookups_stand_alone_between_ticks() {
+    let has = |pair: &Pair| {
+        let stretches = pair.first.split(|call| matches!(call, Call::Tick(_)));
+        stretches.rev().skip(1).any(|stretch| {
+            let lookup = |call: &Call| matches!(call, Call::Lookup(..));
+            stretch.iter().any(lookup) && !stretch.iter().any(Call::is_wire)
+        })
+    };
+    assert!(pairs_with(has) > 20);
 }

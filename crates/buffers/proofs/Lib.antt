@@ -1,0 +1,2 @@
+-- Laws that several proofs share, here and in the crates above.
+pub mod Laws

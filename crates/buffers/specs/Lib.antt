@@ -1,0 +1,2 @@
+-- What the functions that write into a buffer leave there.
+pub mod Pasted
