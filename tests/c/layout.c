@@ -24,6 +24,7 @@ AT(channel, flags, 44);
 AT(channel, user, 49);
 AT(channel, reals, 53);
 AT(channel, maintenance, 61);
+AT(channel, quarters, 65);
 AT(channel, kept, 68);
 _Static_assert(sizeof(struct channel) == 80, "channel");
 AT(shared, free_run_timer, 0);
@@ -116,7 +117,7 @@ static void shared_and_service(void)
 /* WriteEnable is TRUE, so registers 2, 4 and 5 are kept. */
 static void last_channel(void)
 {
-    static const uint8_t settings[4] = {0x01, 0x10, 3, 4};
+    static const uint8_t settings[4] = {0x01, 0x10, 3, 4}, in_flag[1] = {0x40};
     const struct channel *last = &seen.channels[15];
 
     put(0x109, settings, 4);
@@ -139,6 +140,10 @@ static void last_channel(void)
     check(last->counter == 0x01020304 && last->kept.counter == 0x01020304, "Counter");
     put(0x104, two, 4);
     check(last->operating == 16 && last->kept.operating == 16, "OperatingTime");
+    put(0x100, in_flag, 1);
+    pd3120_tick(&box);
+    look();
+    check(last->operating == 16 && last->quarters == 1, "a quarter of an eighth");
     put(0x105, eight_bytes + 1, 4);
     check(memcmp(last->user, eight_bytes + 1, 4) == 0, "the 4 user bytes");
     check(memcmp(last->kept.user, eight_bytes + 1, 4) == 0, "the 4 user bytes, kept");

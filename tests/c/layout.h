@@ -50,6 +50,7 @@ struct channel {
     struct currents currents;
     struct flags flags;
     uint8_t user[4], reals[8], maintenance[4];
+    uint8_t quarters;
     struct kept kept;
 };
 

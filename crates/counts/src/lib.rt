@@ -1,9 +1,13 @@
-// Counts of time: a timer's in 1/256 s, an operating time's in 1/8 s. They are two types, so that
-// neither is taken for the other.
+// Counts of time: a timer's in 1/256 s, an operating time's in 1/8 s, each a type of its own, so that
+// neither is taken for the other. A tick, 1/32 s, is 8 of the first and a quarter of the second.
 ghost use mathlib.Core.Path.{_≡_};
+ghost use mathlib.Core.Bool.{cond};
+ghost use Prim.Native.Nat.{_+_};
+ghost use lib.Dec.{eqb, ltb};
 ghost use lib.IntN.{pos, _-ℤ_};
 ghost use Rattle.integers.specs.Integers.{larger};
-ghost use Rattle.counts.specs.Counts.{freeRunTick, watchdogTick, outTimerTick, feedbackTick, operatingStep, counterStep, isNegative, isPositive};
+ghost use Rattle.counts.specs.Counts.{freeRunTick, watchdogTick, outTimerTick, feedbackTick, counterStep, isNegative, isPositive};
+ghost use Rattle.counts.specs.Counts.{operatingStep, operatingTick};
 use integers::signed;
 
 #[repr(C)]
@@ -11,6 +15,13 @@ pub struct TimerCount(pub i32);
 
 #[repr(C)]
 pub struct OperatingCount(pub u32);
+
+// An operating count, and the quarters past it, 0 to 3.
+#[repr(C)]
+pub struct Operating {
+    pub count: OperatingCount,
+    pub quarters: u8,
+}
 
 // A tick is 1/32 s.
 const TICK: i32 = 8;
@@ -76,6 +87,43 @@ impl OperatingCount {
             return OperatingCount(n + 1);
         }
         OperatingCount(4294967295)
+    }
+}
+
+fn step_if(b: bool, n: OperatingCount) -> OperatingCount
+    ensures { λ r. ⌜ r ≡ cond b (operatingStep n) n ⌝ }
+{
+    let stepped = n.step();
+    if b { stepped } else { n }
+}
+
+// A quarter more. A number above 3 acts as 0.
+fn more(q: u8) -> u8
+    ensures { λ r. ⌜ r ≡ cond (ltb q 3) (q + 1) (cond (eqb q 3) 0 1) ⌝ }
+{
+    if q < 3 {
+        return q + 1;
+    }
+    if q == 3 { 0 } else { 1 }
+}
+
+fn pick(b: bool, x: u8, y: u8) -> u8
+    ensures { λ r. ⌜ r ≡ cond b x y ⌝ }
+{
+    if b { x } else { y }
+}
+
+impl Operating {
+    // A tick with InFlag on or off. Values are chosen: a branch on InFlag, or on the fourth quarter,
+    // took longer where channels go on and off (docs/FIGURES.md).
+    pub fn tick(self, on: bool) -> Operating
+        ensures { λ r. ⌜ r ≡ cond on (operatingTick self) self ⌝ }
+    {
+        let quarters = more(self.quarters);
+        Operating {
+            count: step_if(on & (self.quarters == 3), self.count),
+            quarters: pick(on, quarters, self.quarters),
+        }
     }
 }
 

@@ -14,9 +14,9 @@ use Rattle.model.specs.declared.LevelTable.{LevelTable}
 use Rattle.model.specs.Parts.{ChannelParts, DataParts, Parts}
 use Prim.Native.Nat.{ℕ}
 
-channel-parts : (g : Config) (f : Flags) (ot ft op fp : TimerCount) (i : Currents) (e : Errors) (n : ℤ) (t : OperatingCount) (u r d : List ℕ) (k : Kept) →
-    ChannelParts g f ot ft op fp i e n t u r d k
-channel-parts g f ot ft op fp i e n t u r d k =
+channel-parts : (g : Config) (f : Flags) (ot ft op fp : TimerCount) (i : Currents) (e : Errors) (n : ℤ) (t : OperatingCount) (q : ℕ) (u r d : List ℕ) (k : Kept) →
+    ChannelParts g f ot ft op fp i e n t q u r d k
+channel-parts g f ot ft op fp i e n t q u r d k =
     record {
       configs = λ x. refl;
       all-flags = λ x. refl;
@@ -27,7 +27,7 @@ channel-parts g f ot ft op fp i e n t u r d k =
       all-currents = λ x. refl;
       all-errors = λ x. refl;
       counters = λ x. refl;
-      operatings = λ x. refl;
+      operatings = λ x y. refl;
       users = λ x. refl;
       all-reals = λ x. refl;
       maintenances = λ x. refl;
@@ -44,6 +44,7 @@ channel-parts g f ot ft op fp i e n t u r d k =
       min-currents = λ x o l h. refl;
       max-currents = λ x o l h. refl;
       timers = (refl, refl, refl, refl);
+      time = (refl, refl);
       each-flag = λ o i′ c s m. (refl, refl, refl, refl, refl);
     }
 

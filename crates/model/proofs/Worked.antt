@@ -5,3 +5,4 @@ pub mod Ticks
 pub mod Saves
 pub mod Image
 pub mod Levels
+pub mod Runs

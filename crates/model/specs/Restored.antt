@@ -15,11 +15,12 @@ use Rattle.model.specs.State.{flagsOf, channelWith, noBits, sharedOf, se
 use Rattle.model.specs.Lookup.{zero as realZero}
 use Rattle.model.specs.Image.{Entry, DataKept, Setup, decode, imageSize}
 
+-- Change 2, 2: an operating count comes back without quarters
 unfoldable pub restored : Entry → Channel
 restored e =
     channelWith (e .config) (flagsOf false false false false false) (timer (pos 0)) (timer (pos 0)) (e .out-preset) (e .fb-preset)
     (record { out = realZero; min = e .min; max = e .max }) (record { act = noBits; his = noBits })
-    (e .counter) (e .operating) (e .user) (e .reals) (e .maintenance) (record { counter = e .counter; operating = e .operating; user = e .user })
+    (e .counter) (e .operating) 0 (e .user) (e .reals) (e .maintenance) (record { counter = e .counter; operating = e .operating; user = e .user })
 
 abbrev pub restoredShared : Config → TimerCount → Shared
 restoredShared g preset = sharedOf (timer (pos 0)) g preset false 0

@@ -7,6 +7,7 @@ pub mod Ticks
 pub mod Saves
 pub mod Image
 pub mod Levels
+pub mod Runs
 use mathlib.Core.Path.{_≡_}
 use mathlib.Core.Bool.{Bool, true, false}
 use mathlib.Core.List.{List, [], _∷_, _++_, map}

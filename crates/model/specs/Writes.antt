@@ -1,4 +1,5 @@
--- Document 01, Registers and question 7, and document 02, Change 1, 2: which bytes each register allows, and what an accepted write does. Definitions only.
+-- Document 01, Registers and question 7, and document 02, Change 1, 2 and Change 2, 2: which bytes each register allows, and what an accepted write does.
+-- Definitions only.
 use mathlib.Core.Bool.{Bool, true, cond, _&&_}
 use mathlib.Core.List.{List, [], _∷_, map}
 use Prim.Native.Nat.{ℕ, suc}
@@ -8,7 +9,7 @@ use lib.Ieee.Scale.{finite}
 use Rattle.integers.specs.Bytes.{number, signedNumber}
 use Rattle.counts.specs.declared.TimerCount.{TimerCount}
 use Rattle.counts.specs.declared.OperatingCount.{OperatingCount}
-use Rattle.counts.specs.Counts.{timer, timerUnits, operatingUnits}
+use Rattle.counts.specs.Counts.{timer, timerUnits, operatingUnits, operatingOf}
 use Rattle.numbers.specs.Reals.{realFrom, countOf, unitsOf}
 use Rattle.numbers.specs.Written.{timerAllowed, presetAllowed, operatingAllowed, limitAllowed}
 use Rattle.model.specs.declared.Config.{Config}
@@ -151,7 +152,8 @@ abbrev pub serviceWritten : ServiceRegister → List ℕ → Module → Module
 serviceWritten r bs m =
     moduleOf (sharedWritten r bs (m .shared)) (errorsWritten r (m .service)) (map (everyWritten r) (m .channels)) (dataReset r (dataChannel m))
 
--- ---- a digital register. A channel 17: only registers 2, 4 and 5 have working values of their own, kept while WriteEnable is TRUE
+-- ---- a digital register. A channel 17: only registers 2, 4 and 5 have working values of their own, kept while WriteEnable is TRUE. Change 2, 2: a written
+-- OperatingTime has no quarters
 abbrev pub keepIf : {A : Type 0} → Bool → (A → A) → A → A
 keepIf enabled keep x = cond enabled (keep x) x
 
@@ -160,7 +162,7 @@ digitalWritten FlagReg s bs ch = flagRegWritten (getD bs 0 0) ch
 digitalWritten OutTimer s bs ch = setOutTimer (timerFrom bs) ch
 digitalWritten Counter s bs ch = keepIf (writeEnable s) keepCounter (withCounter (signedNumber bs) ch)
 digitalWritten OutCurrent s bs ch = takeCurrent s (realFrom bs) ch
-digitalWritten OperatingTime s bs ch = keepIf (writeEnable s) keepOperating (withOperating (operatingFrom bs) ch)
+digitalWritten OperatingTime s bs ch = keepIf (writeEnable s) keepOperating (withOperating (operatingOf (operatingFrom bs)) ch)
 digitalWritten UserBytes s bs ch = keepIf (writeEnable s) keepUser (withUser bs ch)
 digitalWritten FBTimer s bs ch = setFBTimer (timerFrom bs) ch
 digitalWritten FBPreset s bs ch = setFBPreset (timerFrom bs) ch

@@ -18,6 +18,7 @@ use Rattle.model.specs.Calls.{Request, read, write, level, current, lookUp, tic
 use Rattle.model.specs.Image.{setupOf, encode, imageSize}
 use Rattle.model.specs.Images.{Reached, PowersUpTo}
 use Rattle.model.specs.TwoLists.{LearnsNothing}
+use Rattle.model.specs.Runs.{RunsAddUp}
 use Rattle.pd3120.specs.declared.Answered.{Answered}
 use Rattle.pd3120.specs.declared.Sampled.{Sampled}
 use Rattle.pd3120.specs.declared.Started.{Started}
@@ -84,11 +85,12 @@ lentAfter (Current k x) m lent = lent
 lentAfter (LookUp k x) m lent = lent
 lentAfter Tick m lent = lent
 
--- ---- power-up: its answer and the box; and of an accepted image, demand 3 for that very box, that it is stored again as the same bytes where it has the
--- length that is stored, and that what is stored of it powers up to the same box, whatever its length
+-- ---- power-up: its answer and the box; of any image, that short runs add up in that very box; and of an accepted one, demand 3 for it, that it is stored again
+-- as the same bytes where it has the length that is stored, and that what is stored of it powers up to the same box, whatever its length
 pub record PoweredUp (img : List ℕ) (r : Started) : Type 0 where
   pub answer-is : answerOf (r .reply) [] false false 0 ≡ powerUpAnswer img
   pub box-is : r .after ≡ powerUp img
+  pub runs-add-up : RunsAddUp (r .after)
   pub learns-nothing : numberOf (r .reply) ≡ 0 → LearnsNothing (r .after)
   pub stored-again : numberOf (r .reply) ≡ 0 → length img ≡ imageSize → encode (setupOf (r .after)) ≡ img
   pub renewed : numberOf (r .reply) ≡ 0 → powerUp (encode (setupOf (r .after))) ≡ r .after

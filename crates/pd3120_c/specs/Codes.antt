@@ -18,6 +18,7 @@ use Rattle.model.specs.Calls.{Request, read, write, lookUp, tick, Answer, Stepp
 use Rattle.model.specs.Image.{setupOf, encode, imageSize}
 use Rattle.model.specs.Images.{Reached, PowersUpTo}
 use Rattle.model.specs.TwoLists.{LearnsNothing}
+use Rattle.model.specs.Runs.{RunsAddUp}
 use Rattle.errors.specs.declared.words.Words.{Words}
 use Rattle.errors.specs.Words.{wordsOf}
 use Rattle.registers.specs.Places.{placed, slotOf}
@@ -65,10 +66,11 @@ LeftLent s m′ code lent′ = Left s m′ code × (lent′ ≡ s .answer .buffe
 abbrev pub Ticked : Module → Module → Type 0
 Ticked m m′ = m′ ≡ step m tick .box
 
--- power-up, and of an accepted image demand 3 for the module that it leaves, that it is stored again as the same bytes where it has the length that is stored,
--- and that what is stored of it powers up to the same module, whatever its length
+-- power-up, with the claim that short runs add up in the module that it leaves; and of an accepted image demand 3 for that module, that it is stored again as the
+-- same bytes where it has the length that is stored, and that what is stored of it powers up to the same module, whatever its length
 pub record PoweredUp (img : List ℕ) (m′ : Module) (code : ℕ) : Type 0 where
   pub left : Left (record { answer = powerUpAnswer img; box = powerUp img }) m′ code
+  pub runs-add-up : RunsAddUp m′
   pub learns-nothing : powerUpAnswer img .number ≡ 0 → LearnsNothing m′
   pub stored-again : powerUpAnswer img .number ≡ 0 → length img ≡ imageSize → encode (setupOf m′) ≡ img
   pub renewed : powerUpAnswer img .number ≡ 0 → powerUp (encode (setupOf m′)) ≡ m′

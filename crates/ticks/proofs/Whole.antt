@@ -21,7 +21,7 @@ module _ (s : Shared) (ranOut due : Bool) where
   abbrev by-look : Bool → List Bool → Channel → Channel
   by-look looks levels ch =
       let x = driven s ranOut ch in
-      saved due (judged s (cond looks (operated (setFBStatus (feedbackWrong levels x) x)) x))
+      saved due (judged s (operated (cond looks (setFBStatus (feedbackWrong levels x) x) x)))
 
   where-due : (looks : Bool) (w : ℕ) (levels : List Bool) (cs : List Channel) → levelsOf w ≡ levels
       → map (by-look looks (levelsOf (cond looks w 0))) cs ≡ map (by-look looks levels) cs

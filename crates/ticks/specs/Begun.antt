@@ -7,7 +7,7 @@ use Rattle.model.specs.declared.DataChannel.{DataChannel}
 use Rattle.model.specs.declared.Module.{Module}
 use Rattle.model.specs.State.{inFlag, wdTimer}
 use Rattle.model.specs.Errors.{wordOf}
-use Rattle.model.specs.Tick.{saveDue, tickShared, runsOut, tickService, driven, lookDue, looked, judged, dataTicked}
+use Rattle.model.specs.Tick.{saveDue, tickShared, runsOut, tickService, driven, lookDue, looked, operated, judged, dataTicked}
 use Rattle.settings.specs.Levels.{levelsOf}
 use Rattle.ticks.specs.declared.Begun.{Begun}
 
@@ -26,7 +26,7 @@ begunOf m =
 
 -- one channel: off where the watchdog ran out, then steps 2 to 6
 unfoldable pub tickedBy : Begun → Channel → Channel
-tickedBy b ch = judged (b .shared) (looked (b .shared) (levelsOf (b .levels)) (driven (b .shared) (b .«ran_out») ch))
+tickedBy b ch = judged (b .shared) (operated (looked (b .shared) (levelsOf (b .levels)) (driven (b .shared) (b .«ran_out») ch)))
 
 -- the data channel: a tick that saves channels keeps RealA
 unfoldable pub dataTickedBy : Begun → DataChannel → DataChannel

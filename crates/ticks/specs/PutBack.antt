@@ -6,5 +6,5 @@ use Rattle.model.specs.State.{channelWith, outTimer, fbTimer, outPreset, fbPres
 unfoldable pub putBack : Channel → Channel → Channel
 putBack after ch =
     channelWith (ch .config) (after .flags) (outTimer after) (fbTimer after) (outPreset ch) (fbPreset ch)
-    (ch .currents) (after .errors) (ch .counter) (after .operating)
+    (ch .currents) (after .errors) (ch .counter) (after .operating) (after .quarters)
     (ch .user) (ch .reals) (ch .maintenance) (ch .kept)

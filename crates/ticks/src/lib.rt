@@ -5,7 +5,7 @@ ghost use mathlib.Core.Bool.{cond};
 ghost use mathlib.Core.List.{map};
 ghost use Rattle.model.specs.State.{inFlag};
 ghost use Rattle.model.specs.Errors.{bitValue, wordOf};
-ghost use Rattle.model.specs.Tick.{saveDue, tickShared, watchdogOn, isZero, runsOut, tickService, driven, lookDue, looked, judged, saved, ticked};
+ghost use Rattle.model.specs.Tick.{saveDue, tickShared, watchdogOn, isZero, runsOut, tickService, driven, lookDue, looked, operated, judged, saved, ticked};
 ghost use Rattle.settings.specs.Levels.{levelsOf};
 ghost use Rattle.ticks.specs.Begun.{begunOf, tickedBy, dataTickedBy};
 ghost use Rattle.ticks.specs.PutBack.{putBack};
@@ -140,7 +140,7 @@ pub fn begin(m: Module) -> Begun
 
 // Steps 2 to 6 on one channel, which is off where the watchdog ran out.
 fn tick_channel(s: Shared, ran_out: bool, levels: u16, ch: Channel) -> Channel
-    ensures { λ r. ⌜ r ≡ judged s (looked s (levelsOf levels) (driven s «ran_out» ch)) ⌝ }
+    ensures { λ r. ⌜ r ≡ judged s (operated (looked s (levelsOf levels) (driven s «ran_out» ch))) ⌝ }
 {
     review::review(s, levels, drive::drive(s, ran_out, ch))
 }
@@ -161,6 +161,7 @@ fn put_back(after: Channel, ch: Channel) -> Channel
     next.errors.act.0 = after.errors.act.0;
     next.errors.his.0 = after.errors.his.0;
     next.operating = operating;
+    next.quarters = after.quarters;
     next
 }
 

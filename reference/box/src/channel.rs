@@ -1,6 +1,7 @@
 //! A channel: its settings, its flags and what calls do to them.
 
 mod config;
+mod operating;
 
 pub use config::{Config, Function};
 
@@ -51,6 +52,9 @@ pub struct Channel {
     pub kept: Kept,
     pub counter: i32,
     pub operating: u32,
+    /// Change 2: "the left-over quarters" of an eighth, which no image holds;
+    /// see [`Channel::left_over`].
+    pub quarters: u8,
     pub user_bytes: [u8; 4],
     pub out_flag: bool,
     pub in_flag: bool,
@@ -66,7 +70,8 @@ pub struct Channel {
 }
 
 impl Channel {
-    /// A channel restored from its kept values, "all else 0".
+    /// A channel restored from its kept values, "all else 0". Change 2: "the
+    /// left-over quarters are lost at reset", and so at power-up.
     pub fn restored(kept: Kept) -> Channel {
         Channel {
             kept,
@@ -244,7 +249,8 @@ impl Channel {
         self.change_rule(before);
     }
 
-    /// Step 7 of a tick: "Counter and the operating count are kept."
+    /// Step 7 of a tick: "Counter and the operating count are kept." The
+    /// left-over quarters go on.
     pub fn keep_counts(&mut self) {
         self.kept.counter = self.counter;
         self.kept.operating = self.operating;

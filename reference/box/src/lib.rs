@@ -6,9 +6,10 @@
 //! marks are document 01's; those after "Manual:" are the manual's.
 //!
 //! "Built: service channel 0, digital channels 1 to 16, common channel 17,
-//! setup image." Of document 02 (the change requests), Change 1 is built: the
-//! data channel, $13. Its sentences are named "Change 1:", or stand in quotation
-//! marks in [`data`].
+//! setup image." Of document 02 (the change requests), Change 1 is built, the
+//! data channel, $13, and Change 2, the quarters of an operating count. Their
+//! sentences are named "Change 1:" and "Change 2:", or stand in quotation marks
+//! in [`data`].
 
 pub mod calls;
 pub mod channel;

@@ -7,7 +7,7 @@ use crate::reals;
 
 /// Counts of a tick: 8 of 1/256 s.
 const STEP: i32 = 8;
-/// A look comes where FreeRunTimer is a multiple of this.
+/// A look at the feedback comes where FreeRunTimer is a multiple of this.
 const LOOK: i32 = 32;
 /// "the box counts from 0 to 1151999".
 pub const LAST_OF_SAVE: u32 = 1_151_999;
@@ -70,6 +70,7 @@ impl Channel {
         if look {
             self.look(in_flags);
         }
+        self.count_operating();
         self.judge();
     }
 
@@ -151,16 +152,13 @@ impl Channel {
     }
 
     /// "5. If FreeRunTimer is a multiple of 32: FBStatus := Ref_A set and
-    /// InA ≠ OutFlag, or Ref_B set and InB = OutFlag; the operating count
-    /// gains 1 if InFlag, stopping at 4294967295."
+    /// InA ≠ OutFlag, or Ref_B set and InB = OutFlag". Change 2: the operating
+    /// count "is moved in step 5 of every tick", not at looks.
     fn look(&mut self, in_flags: u16) {
         let config = self.kept.config;
         let wrong_a = config.index_a().is_some() && self.in_a(in_flags) != self.out_flag;
         let wrong_b = config.index_b().is_some() && self.in_b(in_flags) == self.out_flag;
         self.fb_status = wrong_a || wrong_b;
-        if self.in_flag {
-            self.operating = self.operating.saturating_add(1);
-        }
     }
 
     /// "6. Act bits: [...] Bit 6 overload and 0 PrgError stay. Setting any

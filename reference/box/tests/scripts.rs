@@ -17,6 +17,7 @@ const KINDS: &[&str] = &[
     "ends",
     "save",
     "tables",
+    "runs",
     "mixed",
 ];
 

@@ -59,6 +59,7 @@ struct Channel {
     user: [u8; 4],
     reals: [u8; 8],
     maintenance: [u8; 4],
+    quarters: u8,
     kept: Kept,
 }
 
@@ -150,6 +151,8 @@ fn the_library_uses_the_memory_from_its_first_field_to_its_last() {
     module.level(16, true);
     let last = &look(&module).channels[15];
     assert_eq!((last.counter, last.kept.user), (1, [1, 2, 3, 4]));
+    module.tick();
+    assert_eq!(look(&module).channels[15].quarters, 1);
     module.write(0x100, &[0x80]);
     let Errors { act, his } = look(&module).channels[15].errors;
     assert_eq!((act, his), (1, 1), "PrgError: an input has no OutFlag");

@@ -36,8 +36,8 @@ use Rattle.model.specs.TwoLists.{namesOf, names, among, stranger}
 use Rattle.model.proofs.Laws.Tests.{either, both, left, right, range}
 use Rattle.model.proofs.Laws.Lists.{length-each, at-each, at-map}
 use Rattle.model.proofs.Laws.Places.{place-cases}
-use Rattle.model.proofs.Laws.Inputs.{Inputs, inputs, taken, simulated, in-driven, in-tick, given, kept-if, write-in, in-written, in-read, every-in}
-use Rattle.model.proofs.Laws.Inputs.{in-every, common-in, in-common}
+use Rattle.model.proofs.Laws.Inputs.{Inputs, inputs, taken, simulated, in-driven, in-tick, given, kept-if, time-kept-if, operated-in, tick-in}
+use Rattle.model.proofs.Laws.InputRegisters.{write-in, in-written, in-read, every-in, in-every, common-in, in-common}
 
 -- ---- names
 abbrev pub Within : List ℕ → List ℕ → Type 0
@@ -138,9 +138,9 @@ module _ (c : ℕ) (ns : List ℕ) where
   unfolding taken given
   held-taken who b n h = either Held (who (n .config)) h h
 
-  held-kept : (b : Bool) (n : Inputs) → Held n → Held (kept-if b n)
-  unfolding kept-if
-  held-kept b n h = h
+  held-tick : (due : Bool) (n : Inputs) → Held n → Held (tick-in due n)
+  unfolding tick-in time-kept-if kept-if operated-in
+  held-tick due n h = h
 
   held-every : (r : ServiceRegister) (n : Inputs) → Held n → Held (every-in r n)
   unfolding every-in
@@ -163,7 +163,7 @@ module _ (c : ℕ) (ns : List ℕ) where
   -- a write of ChConfig names what its bytes name
   held-written : (r : DigitalRegister) (enabled : Bool) (bs : List ℕ) → (digitalRow r .number ≡ 9 → Within ns (names (Image.configFrom bs))) → (n : Inputs)
       → Held n → Held (write-in r enabled bs n)
-  unfolding write-in kept-if
+  unfolding write-in kept-if time-kept-if
   held-written FlagReg en bs w n h = held-taken simulated _ n h
   held-written OutTimer en bs w n h = h
   held-written Counter en bs w n h = h
@@ -277,7 +277,8 @@ module _ (c : ℕ) (ns : List ℕ) where
 
     reviewed-alike : (s : Shared) (due : Bool) (ch : Channel) → Held (inputs ch) → Tick.reviewed s due (levels m) ch ≡ Tick.reviewed s due (levels m′) ch
     unfolding Tick.reviewed Tick.looked
-    reviewed-alike s due ch h = ap (λ (x : Bool). Tick.saved due (Tick.judged s (cond (Tick.lookDue s) (Tick.operated (setFBStatus x ch)) ch))) (feedback-alike ch h)
+    reviewed-alike s due ch h =
+        ap (λ (x : Bool). Tick.saved due (Tick.judged s (Tick.operated (cond (Tick.lookDue s) (setFBStatus x ch) ch)))) (feedback-alike ch h)
 
     pub tick-alike : m .service .«wd_timer» ≡ m′ .service .«wd_timer» → Alike (Tick.ticked m) (Tick.ticked m′)
     unfolding Tick.ticked
@@ -290,8 +291,8 @@ module _ (c : ℕ) (ns : List ℕ) where
               record {
                 same = λ p. reviewed-alike s due (Tick.driven s out x) (subst Held (sym (in-driven s out x)) (h .held p)) ∙ ap
                     (λ (z : Channel). Tick.reviewed s due (levels m′) (Tick.driven s out z)) (h .same p);
-                held = λ p. subst Held (sym (in-tick s due (levels m) out x)) (held-kept due (inputs x) (h .held p));
-                seen = λ t. in-tick s due (levels m) out x ∙ ap (kept-if due) (h .seen t) ∙ sym (in-tick s due (levels m′) out y);
+                held = λ p. subst Held (sym (in-tick s due (levels m) out x)) (held-tick due (inputs x) (h .held p));
+                seen = λ t. in-tick s due (levels m) out x ∙ ap (tick-in due) (h .seen t) ∙ sym (in-tick s due (levels m′) out y);
               }) (a .1)),
         )
 

@@ -1,9 +1,10 @@
 -- What holds of every register that a SWNo can name, each at its own number, holds at the SWNo. Assumes nothing.
 use mathlib.Core.Path.{_≡_}
 use mathlib.Core.List.{List, [], _∷_}
-use Prim.Native.Nat.{ℕ, _/_, _%_, _≤_}
+use Prim.Native.Nat.{ℕ, _+_, _*_, _/_, _%_, _<_, _≤_}
+use native.Mathlib.Omega.{arith}
 use lib.Dec.{eqb}
-use borrow.Author.Tests.{eqb-true}
+use borrow.Author.Tests.{eqb-true, ne-eqb, le-leb}
 use Rattle.model.specs.declared.ServiceRegister.{ServiceRegister}
 use Rattle.model.specs.declared.DigitalRegister.{DigitalRegister}
 use Rattle.model.specs.declared.CommonRegister.{CommonRegister}
@@ -30,3 +31,11 @@ place-cases Q n qu qs qc qv qd =
     by-test Q (eqb (n / 16) 19) (λ e₂. find-cases Q data-channel dataRow (n % 16) dataRegisters qu (qv (eqb-true _ _ e₂))) (λ e₂.
     by-test Q (isDigital (n / 16)) (λ d. let (p, q) = range (n / 16) d in find-cases Q (digital (n / 16)) digitalRow (n % 16) digitalRegisters qu (qd p q))
     (λ d. qu))))
+
+-- the registers of a digital channel
+pub digital-place : (c : ℕ) → 1 ≤ c → c ≤ 16 → (r : ℕ) → r < 16 → place (c * 0x10 + r) ≡ find (digital c) digitalRow r digitalRegisters
+unfolding place
+digital-place c a b r h =
+    let e : (c * 0x10 + r) / 16 ≡ c = omega arith in
+    let f : (c * 0x10 + r) % 16 ≡ r = omega arith in
+    rw (e, f, ne-eqb c 0 (λ z. omega (arith, z)), ne-eqb c 17 (λ z. omega (arith, z)), ne-eqb c 19 (λ z. omega (arith, z)), le-leb 1 c a, le-leb c 16 b)

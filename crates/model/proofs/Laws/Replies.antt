@@ -55,7 +55,7 @@ refusal-number ImageValues = omega arith
 refusal-number NoRoom = omega arith
 refusal-number NoTable = omega arith
 
-not-zero : {A : Type 0} (r : Refusal) → refusalNumber r ≡ 0 → A
+pub not-zero : {A : Type 0} (r : Refusal) → refusalNumber r ≡ 0 → A
 not-zero r e = absurd (omega (arith, refusal-number r))
 
 -- so the number 0 is given of what is done

@@ -1,6 +1,6 @@
 -- Tests and choices. Assumes nothing.
 use mathlib.Core.Path.{_≡_, refl}
-use mathlib.Core.Bool.{Bool, true, false, cond, _&&_, _||_, false≢true}
+use mathlib.Core.Bool.{Bool, true, false, cond, _&&_, _||_, false≢true, true≢false}
 use Prim.Native.Nat.{ℕ, _≤_}
 use lib.Dec.{T, leb}
 use borrow.Author.Tests.{leb-true}
@@ -20,6 +20,10 @@ pub both : (a b : Bool) → a && b ≡ true → (a ≡ true) × (b ≡ true)
 both true true e = (refl, refl)
 both true false e = (refl, e)
 both false b e = absurd (false≢true e)
+
+pub neither : (a b : Bool) → a || b ≡ false → (a ≡ false) × (b ≡ false)
+neither false b e = (refl, e)
+neither true b e = absurd (true≢false e)
 
 pub left : (a b : Bool) → T a → T (a || b)
 left true b t = tt

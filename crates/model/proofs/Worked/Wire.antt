@@ -32,11 +32,11 @@ unfolding played Calls.cleared Calls.watchdogPreset Calls.step Calls.run Calls.p
     Questions.levelReply Questions.currentReply Questions.lookUpReply Questions.powerUpReply Questions.storeReply Reads.flagReg Reads.serviceBytes
     Reads.digitalBytes Reads.commonBytes Reads.pairsBytes Reads.dataBytes Reads.bytesRead Reads.afterRead Registers.place Settings.functionOf
     Settings.referenceOf Settings.inA Settings.inB Settings.output Tick.saveDue Tick.tickShared Tick.runsOut Tick.tickService Tick.shutDown Tick.timersRun
-    Tick.oneShot Tick.dutyCycle Tick.timerOutput Tick.overloaded Tick.guarded Tick.driven Tick.lookDue Tick.feedbackWrong Tick.looked Tick.found Tick.judged
+    Tick.oneShot Tick.dutyCycle Tick.timerOutput Tick.overloaded Tick.guarded Tick.driven Tick.lookDue Tick.feedbackWrong Tick.looked Tick.operated Tick.found Tick.judged
     Tick.saved Tick.reviewed Tick.dataTimersRun Tick.dataTicked Tick.ticked Writes.sharedWritten Writes.errorsWritten Writes.everyWritten
     Writes.digitalWritten Writes.commonWritten Writes.dataReset Writes.dataWritten Writes.written Integers.modulo Integers.signedBits Integers.wrapped
     Integers.larger Bytes.number Bytes.bytesOf Bytes.signedNumber Bytes.signedBytes Counts.freeRunTick Counts.watchdogTick Counts.outTimerTick
-    Counts.feedbackTick Counts.operatingStep Counts.counterStep Counts.isNegative Counts.isPositive Reals.realFrom Reals.realBytes Reals.whole Reals.unitsOf
+    Counts.feedbackTick Counts.operatingStep Counts.operatingTick Counts.counterStep Counts.isNegative Counts.isPositive Reals.realFrom Reals.realBytes Reals.whole Reals.unitsOf
     Reals.countOf Reals.realOf Written.from Written.below Written.upTo ofBits toBits ofInt le lt Calls.storeAnswer xor
 worked-wire =
     record {

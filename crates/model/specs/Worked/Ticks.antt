@@ -77,7 +77,7 @@ pub record Ticks : Type 0 where
       (takes (amperes 1 0x4040_0000) then writes 0x10 (one 0x80) past then reads 0x10 (one 0x80) past then takes tick then reads 0x10 (one 0x02) present
       then reads 0x16 (four 0x3E20_0000) present then reads 0x1F (four 0x4800_4800) present)
   -- A tick 5: the looks at ticks 4 and 8, channels 1 to 16 with each sense of A and B, output on and off, simulated or not; FBTimer and bit 1; operating
-  --  time
+  --  time of channels that are on for eight ticks and for two
   pub feedback : Plays feedbackBox
       (takes (level 15 true) then writes 0x20 (one 0x80) past then writes 0x40 (one 0x80) past then writes 0x60 (one 0x80) past
       then writes 0x80 (one 0x80) past then writes 0x90 (one 0x80) past then writes 0xB0 (one 0x80) past then writes 0xD0 (one 0x80) past
@@ -92,7 +92,7 @@ pub record Ticks : Type 0 where
       0xA2 ∷ 0x10 ∷ 0xA2 ∷ 0x40 ∷ 0x00 ∷ 0xE0 ∷ []) then wordsFrom 0x16 16 present (0xBE80_0000 ∷ 0xBDC0_0000 ∷ 0xBE80_0000 ∷ 0xBDC0_0000 ∷
       0xBE80_0000 ∷ 0xBDC0_0000 ∷ 0xBE80_0000 ∷ 0xBDC0_0000 ∷ 0xBDC0_0000 ∷ 0xBE80_0000 ∷ 0xBDC0_0000 ∷ 0xBE80_0000 ∷ 0xBDC0_0000 ∷ 0xBE80_0000 ∷
       0xBE80_0000 ∷ 0xBDC0_0000 ∷ []) then reads 0xF4 (four 0x4E00_0000) present then reads 0x104 (four 0x3E80_0000) present
-      then reads 0xE4 (four 0x3E00_0000) present then reads 0x07 (four 0x0000_0040) present)
+      then reads 0xE4 (four 0) present then reads 0x07 (four 0x0000_0040) present)
   -- A tick 4 and 6: the trip in a tick, above MaxCurrent and not at it, silenced and not, late and early; each Act bit with what silences it; His after
   --  an acknowledgement
   pub errors : Plays errorBox

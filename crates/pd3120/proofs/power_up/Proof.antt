@@ -9,7 +9,9 @@ use Rattle.model.specs.Questions.{numberOf}
 use Rattle.model.specs.Calls.{answerOf, powerUp, powerUpAnswer}
 use Rattle.model.specs.Image.{setupOf, encode}
 use Rattle.model.specs.TwoLists.{LearnsNothing}
-use Rattle.model.proofs.TwoLists.{two-lists}
+use Rattle.model.specs.Runs.{RunsAddUp}
+use Rattle.model.proofs.TwoLists.{sixteen, two-lists}
+use Rattle.model.proofs.Runs.{runs}
 use Rattle.model.proofs.Images.{images}
 use Rattle.pd3120.proofs.Laws.Bytes.{are-bytes}
 use Rattle.pd3120.proofs.power_up.Statement.{statement}
@@ -28,6 +30,7 @@ returns c =
     record {
       answer-is = ap (λ (q : Reply). answerOf q [] false false 0) (e .1);
       box-is = e .0;
+      runs-add-up = subst RunsAddUp (sym (e .0)) (runs .add-up (powerUp img) (sixteen img));
       learns-nothing = λ ok. subst LearnsNothing (sym (e .0)) (two-lists img (sym number ∙ ok));
       stored-again = λ ok long. ap (λ (m : Module). encode (setupOf m)) (e .0) ∙ images .again img bytes long (sym number ∙ ok);
       renewed = λ ok. ap (λ (m : Module). powerUp (encode (setupOf m))) (e .0) ∙ images .renewed img bytes (sym number ∙ ok) .1 ∙ sym (e .0);

@@ -1,16 +1,23 @@
--- `operate` meets its contract. Assumes nothing.
+-- `operate` meets its contract: an operating time that is chosen is put back into the channel that would be chosen. Assumes nothing.
 use borrow.Author.Needs.{needs}
+use mathlib.Core.Path.{ap, _∙_}
+use Rattle.counts.specs.declared.Operating.{Operating}
+use Rattle.counts.specs.Counts.{operatingTick}
+use Rattle.model.specs.State.{operatingTime, withOperating, inFlag}
+use Rattle.model.specs.Tick.{operated}
+use Rattle.model.proofs.Laws.Tests.{picked}
 use Rattle.review.proofs.operate.Statement.{statement}
 use Rattle.review.proofs.operate.Tie as tie
 
-step-requires : tie.Need-step-requires
-step-requires c κs = search needs
+tick-requires : tie.Need-tick-requires
+tick-requires c κs = search needs
 
 returns : tie.Need-returns
-returns c = simp (c .step .ensures, c .before .before .if1 .taken)
-
-returns-2 : tie.Need-returns-2
-returns-2 c = simp (c .if1 .left)
+unfolding operated
+returns c =
+    let ch = c .before .before .before .args .ch in
+    ap (λ (t : Operating). withOperating t ch) (c .before .tick .ensures)
+    ∙ picked (λ (t : Operating). withOperating t ch) (inFlag ch) (operatingTick (operatingTime ch)) (operatingTime ch)
 
 pub operate-spec : {M : Type 1} → statement M
-operate-spec = tie.close (tie.spec step-requires returns returns-2)
+operate-spec = tie.close (tie.spec tick-requires returns)

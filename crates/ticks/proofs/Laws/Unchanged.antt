@@ -14,7 +14,7 @@ use Rattle.model.specs.declared.Kept.{Kept}
 use Rattle.model.specs.declared.Channel.{Channel}
 use Rattle.model.specs.declared.Shared.{Shared}
 use Rattle.model.specs.declared.Function.the-variants.{Input, Output, OneShot, DutyCycle, Timer}
-use Rattle.model.specs.State.{channelWith, outFlag, inFlag, control, outTimer, fbTimer, outPreset, fbPreset, setFBStatus}
+use Rattle.model.specs.State.{channelWith, outFlag, inFlag, control, outTimer, fbTimer, outPreset, fbPreset}
 use Rattle.model.specs.Settings.{functions, silencesOverload}
 use Rattle.model.specs.Channel.{changed, tripped}
 use Rattle.model.specs.Tick as Tick
@@ -49,7 +49,7 @@ rest ch =
 -- a channel with these parts
 abbrev with-rest : Rest → Channel → Channel
 with-rest x ch =
-    channelWith (x .config) (ch .flags) (outTimer ch) (fbTimer ch) (x .out-preset) (x .fb-preset) (x .currents) (ch .errors) (x .counter) (ch .operating)
+    channelWith (x .config) (ch .flags) (outTimer ch) (fbTimer ch) (x .out-preset) (x .fb-preset) (x .currents) (ch .errors) (x .counter) (ch .operating) (ch .quarters)
     (x .user) (x .reals) (x .maintenance) (x .kept)
 
 put-back : (after ch : Channel) → rest after ≡ rest ch → putBack after ch ≡ after
@@ -93,6 +93,7 @@ module _ (ch : Channel) where
   left-turned = either Left (control ch && not (isPositive (outTimer ch))) refl refl
 
   left-operated : Left (Tick.operated ch)
+  unfolding Tick.operated
   left-operated = either Left (inFlag ch) refl refl
 
   left-judged : (s : Shared) → Left (Tick.judged s ch)
@@ -138,12 +139,14 @@ left-driven s out ch =
 
 left-looked : (s : Shared) (levels : List Bool) (ch : Channel) → rest (Tick.looked s levels ch) ≡ rest ch
 unfolding Tick.looked
-left-looked s levels ch = either (Left ch) (Tick.lookDue s) (left-operated (setFBStatus (Tick.feedbackWrong levels ch) ch)) refl
+left-looked s levels ch = either (Left ch) (Tick.lookDue s) refl refl
 
 -- what is put back is all that they changed
 pub put-back-ticked : (s : Shared) (out : Bool) (levels : List Bool) (ch : Channel)
-    → putBack (Tick.judged s (Tick.looked s levels (Tick.driven s out ch))) ch ≡ Tick.judged s (Tick.looked s levels (Tick.driven s out ch))
+    → putBack (Tick.judged s (Tick.operated (Tick.looked s levels (Tick.driven s out ch)))) ch
+    ≡ Tick.judged s (Tick.operated (Tick.looked s levels (Tick.driven s out ch)))
 put-back-ticked s out levels ch =
     let x = Tick.driven s out ch in
     let y = Tick.looked s levels x in
-    put-back (Tick.judged s y) ch (left-judged y s ∙ left-looked s levels x ∙ left-driven s out ch)
+    let z = Tick.operated y in
+    put-back (Tick.judged s z) ch (left-judged z s ∙ left-operated y ∙ left-looked s levels x ∙ left-driven s out ch)

@@ -78,7 +78,7 @@ impl ChannelBox {
 fn write_working(channel: &mut Channel, register: Digital, bytes: &[u8], keep: bool) {
     match register {
         Digital::Counter => channel.counter = i32::from_be_bytes(fixed(bytes)),
-        Digital::OperatingTime => channel.operating = reals::to_operating_count(real(bytes)),
+        Digital::OperatingTime => channel.write_operating(reals::to_operating_count(real(bytes))),
         _ => channel.user_bytes = fixed(bytes),
     }
     if !keep {

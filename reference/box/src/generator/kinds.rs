@@ -20,6 +20,7 @@ pub enum Kind {
     Ends,
     Save,
     Tables,
+    Runs,
     Mixed,
 }
 
@@ -37,6 +38,7 @@ pub const KINDS: &[(&str, Kind)] = &[
     ("ends", Kind::Ends),
     ("save", Kind::Save),
     ("tables", Kind::Tables),
+    ("runs", Kind::Runs),
     ("mixed", Kind::Mixed),
 ];
 
@@ -53,6 +55,7 @@ impl Kind {
             Kind::Currents => Flavour::Currents,
             Kind::Errors => Flavour::Errors,
             Kind::Ends => Flavour::Ends,
+            Kind::Runs => Flavour::Runs,
             _ => Flavour::Plain,
         }
     }
@@ -63,6 +66,7 @@ fn long_runs(script: &mut Script, kind: Kind) -> u32 {
     match kind {
         Kind::Save => 3,
         Kind::Tables => 1,
+        Kind::Runs => 2,
         Kind::Mixed => u32::from(script.random.chance(1, 8)),
         _ => 0,
     }

@@ -11,6 +11,8 @@ use std::fmt::Write;
 
 /// Ticks from one save to the next.
 const SAVE: u64 = 1_152_000;
+/// Ticks from one look at the feedback to the next.
+const LOOK: u64 = 4;
 
 pub struct Script {
     pub random: Random,
@@ -179,6 +181,11 @@ impl Script {
     /// How many ticks there are up to and with the next save.
     pub fn ticks_to_save(&self) -> u64 {
         SAVE - self.ticks % SAVE
+    }
+
+    /// How many ticks there are up to and with the next look.
+    pub fn ticks_to_look(&self) -> u64 {
+        LOOK - self.ticks % LOOK
     }
 
     /// Mostly a channel of the focus, now and then any other.

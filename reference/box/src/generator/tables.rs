@@ -6,7 +6,7 @@ mod running;
 use super::actions::{self as act, Action};
 use super::kinds::Kind;
 use holding::{ENDS, IMAGES, REFUSALS, REGISTERS, RESET, SAVE, TABLES};
-use running::{CURRENTS, ERRORS, FEEDBACK, TICKS, WATCHDOG};
+use running::{CURRENTS, ERRORS, FEEDBACK, RUNS, TICKS, WATCHDOG};
 
 /// Actions with their weights.
 pub type Table = &'static [(u64, Action)];
@@ -26,6 +26,7 @@ impl Kind {
             Kind::Ends => ENDS,
             Kind::Save => SAVE,
             Kind::Tables => TABLES,
+            Kind::Runs => RUNS,
             Kind::Mixed => MIXED,
         }
     }
@@ -57,5 +58,6 @@ pub const PHASES: &[(u64, Kind)] = &[
     (2, Kind::Ends),
     (1, Kind::Save),
     (2, Kind::Tables),
+    (2, Kind::Runs),
     (2, Kind::Mixed),
 ];

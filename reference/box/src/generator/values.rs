@@ -2,11 +2,13 @@
 
 mod lookups;
 mod numbers;
+mod operating;
 mod settings;
 mod suiting;
 
 pub use lookups::{table, x_for};
 pub use numbers::{current, end_count, end_real, limit, signed_time, small_count, time};
+pub use operating::{last_count, operating_time, refused_operating_time};
 pub use settings::{config, module_config, settings};
 pub use suiting::{flag_reg, suiting};
 
@@ -19,4 +21,5 @@ pub enum Flavour {
     Currents,
     Errors,
     Ends,
+    Runs,
 }

@@ -1,6 +1,7 @@
 mod errors;
 mod looks;
 mod outputs;
+mod quarters;
 mod service;
 
 use super::*;

@@ -1,6 +1,7 @@
 -- `special::duty_cycle` meets its contract. Assumes nothing.
 use borrow.Author.Needs.{needs}
-use Rattle.model.specs.Tick.{dutyCycle}
+use mathlib.Core.Path.{_∙_, ap}
+use Rattle.model.specs.Tick.{dropped, seen, turned, dutyCycle}
 use Rattle.drive.proofs.special.duty_cycle.Statement.{statement}
 use Rattle.drive.proofs.special.duty_cycle.Tie as tie
 
@@ -18,7 +19,9 @@ turn-output-requires c κs = search needs
 
 returns : tie.Need-returns
 unfolding dutyCycle
-returns c = simp (c .turn-output .ensures, c .before .see-control .ensures, c .before .before .drop-output .ensures, c .before .before .before .switch-on .ensures)
+returns c =
+    c .turn-output .ensures ∙ ap turned (c .before .see-control .ensures ∙ ap seen (c .before .before .drop-output .ensures ∙ ap dropped
+    (c .before .before .before .switch-on .ensures)))
 
 pub duty-cycle-spec : {M : Type 1} → statement M
 duty-cycle-spec =

@@ -19,6 +19,7 @@ returns c =
     let number = ap (λ (a : Answer). a .number) (e .answer-is) in
     record {
       left = (e .box-is, c .pack .ensures ∙ ap answerCode (e .answer-is));
+      runs-add-up = e .runs-add-up;
       learns-nothing = λ ok. e .learns-nothing (number ∙ ok);
       stored-again = λ ok long. e .stored-again (number ∙ ok) long;
       renewed = λ ok. e .renewed (number ∙ ok);

@@ -2,6 +2,7 @@
 
 use crate::answers::{in_words, Compared};
 use crate::own::{Match, Matched, Own};
+use crate::runs::{FIRST_READ, LAST_READ};
 use reference_box::image::LENGTH;
 
 /// The bytes of an image before the channels' entries.
@@ -71,13 +72,15 @@ impl<'a> List<'a> {
     }
 }
 
-/// What was found the same, and how often strangers differed.
+/// What was found the same, how often strangers differed, and in how many pairs
+/// c's OperatingTime went on with the four further ticks.
 #[derive(Default)]
 struct Counts {
     own: usize,
     end: usize,
     pairs_that_differ: usize,
     pairs_that_differ_at_end: usize,
+    pairs_that_go_on: usize,
 }
 
 impl Played<'_> {
@@ -96,15 +99,21 @@ impl Played<'_> {
             let why = "no stranger's register ever differed, or no own call was there";
             return Err(format!("seed {}: nothing is shown: {why}", own.seed));
         }
+        if counts.pairs_that_go_on == 0 {
+            let why = "four ticks never moved the channel's OperatingTime";
+            return Err(format!("seed {}: nothing is shown: {why}", own.seed));
+        }
         Ok(format!(
             "{} pairs (seed {}): {calls} calls, {} own answers and {} end registers the same; \
-             in {} pairs the strangers' own answers or registers differed, in {} the registers",
+             in {} pairs the strangers' own answers or registers differed, in {} the registers; \
+             in {} the channel's OperatingTime moved, by the same, in four ticks after the end",
             own.pairs.len(),
             own.seed,
             counts.own,
             counts.end,
             counts.pairs_that_differ,
             counts.pairs_that_differ_at_end,
+            counts.pairs_that_go_on,
         ))
     }
 
@@ -122,13 +131,28 @@ impl Played<'_> {
             let kept = |first: Compared, second: Compared| same_entry(pair.channel, first, second);
             self.compare(lines, "kept values", kept)?;
         }
+        for &lines in &pair.quarters {
+            self.compare(lines, "left-over quarters", accepted)?;
+        }
         counts.own += pair.own.len();
         counts.end += pair.end.len();
         let at_end = self.registers_differ(pair)?;
         let differ = at_end || self.answers_differ(pair)?;
         counts.pairs_that_differ += usize::from(differ);
         counts.pairs_that_differ_at_end += usize::from(at_end);
+        counts.pairs_that_go_on += usize::from(self.goes_on(pair)?);
         Ok(())
+    }
+
+    /// Whether OperatingTime after the four ticks is another than before them.
+    /// Of the lent bytes after it nothing is asked here.
+    fn goes_on(&self, pair: &Matched) -> Result<bool, String> {
+        let time = |place: usize| {
+            let (first, _) = pair.quarters[place];
+            let answer = self.first.at(first)?.1;
+            Ok::<_, String>(answer.buffer.and_then(|buffer| buffer.get(..8)))
+        };
+        Ok(time(FIRST_READ)? != time(LAST_READ)?)
     }
 
     /// Asks something of the answers to one call of both lists.

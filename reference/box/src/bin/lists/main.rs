@@ -13,10 +13,12 @@
 //! from the two box-wide error bits, and at the end c has the same registers
 //! and kept values, so that it has the same Output too (OutFlag is in FlagReg,
 //! Functions in ChConfig). Counts are compared as far as a read or an image
-//! shows them. It prints one line, or says on standard error what the first
-//! difference is and ends with status 1. It fails as well where nothing would
-//! be shown: where calls or answers are missing, or where no stranger's
-//! register differs between the lists in any pair.
+//! shows them; of the quarters of c's operating count, which neither does, what
+//! four further ticks show. It prints one line, or says on standard error what
+//! the first difference is and ends with status 1. It fails as well where
+//! nothing would be shown: where calls or answers are missing, where no
+//! stranger's register differs between the lists in any pair, or where c's
+//! OperatingTime goes on with those ticks in none.
 
 mod answers;
 mod check;
@@ -24,6 +26,7 @@ mod hypotheses;
 mod own;
 mod pair;
 mod record;
+mod runs;
 mod second;
 
 use check::{List, Played};

@@ -1,5 +1,7 @@
 //! The file `own`, read back. Its form is written at the top of `record.rs`.
 
+use crate::runs::SHOWING;
+
 /// Lines of the two files that are matched, counted from 1.
 pub type Match = (usize, usize);
 
@@ -13,6 +15,8 @@ pub struct Matched {
     pub end: Vec<Match>,
     pub kept: Vec<Match>,
     pub other: Vec<Match>,
+    /// Change 2: c's own calls and ticks that show its left-over quarters.
+    pub quarters: Vec<Match>,
     /// Strangers' calls in the first list, and in the second.
     pub first: Vec<usize>,
     pub second: Vec<usize>,
@@ -86,6 +90,7 @@ impl Matched {
             "end" => &mut self.end,
             "kept" => &mut self.kept,
             "other" => &mut self.other,
+            "quarters" => &mut self.quarters,
             _ => return None,
         };
         matches.extend((0..count).map(|offset| (first + offset, second + offset)));
@@ -107,6 +112,7 @@ impl Matched {
             && self.power.len() == 1
             && self.end.len() == REGISTERS
             && self.kept.len() == 1
+            && self.quarters.len() == SHOWING
     }
 }
 

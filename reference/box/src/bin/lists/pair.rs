@@ -1,6 +1,6 @@
 //! A pair of lists, drawn at random so that "Two lists" speaks of it.
 
-use crate::second;
+use crate::{runs, second};
 use reference_box::generator::actions::{self as act, Action};
 use reference_box::generator::random::Random;
 use reference_box::generator::script::Script;
@@ -76,6 +76,10 @@ const ACTIONS: &[(u64, Action)] = &[
     (1, act::keep_data),
     (1, act::count_data_timer),
     (1, act::beside_data),
+    (3, act::run),
+    (2, act::set_any_in_flag),
+    (1, act::write_operating_time),
+    (1, act::refused_operating_time),
 ];
 
 /// Two lists for one image and one digital channel c.
@@ -90,6 +94,8 @@ pub struct Pair {
     pub ending: Vec<Call>,
     /// Reads of each register of the strangers, to see whether they differ.
     pub survey: Vec<Call>,
+    /// Change 2: further ticks that show c's left-over quarters.
+    pub quarters: Vec<Call>,
 }
 
 impl Pair {
@@ -112,6 +118,7 @@ impl Pair {
             second,
             ending: reads(&mut script, &[channel]),
             survey: reads(&mut script, &strangers),
+            quarters: runs::show_quarters(&mut script, channel),
             strangers,
         }
     }
@@ -126,7 +133,8 @@ fn some_others(random: &mut Random, channel: u8) -> Vec<u8> {
 }
 
 /// An image that power-up accepts, of either length, half of the time with a
-/// watchdog that runs out after a few ticks.
+/// watchdog that runs out after a few ticks. Mostly a read shows each step of
+/// c's operating count.
 fn image(script: &mut Script, channel: u8, others: &[u8]) -> Vec<u8> {
     let focus = [&[channel], others].concat();
     let flavour = script.random.pick(FLAVOURS);
@@ -135,6 +143,9 @@ fn image(script: &mut Script, channel: u8, others: &[u8]) -> Vec<u8> {
     if random.chance(1, 2) {
         settings.module_config.functions = 0;
         settings.wd_preset = random.within(8, 80) as i32;
+    }
+    if random.chance(3, 4) {
+        settings.channels[usize::from(channel) - 1].operating = random.below(1000) as u32;
     }
     let image = match random.below(4) {
         0 => settings.encode_old().to_vec(),
@@ -146,17 +157,19 @@ fn image(script: &mut Script, channel: u8, others: &[u8]) -> Vec<u8> {
     image
 }
 
-/// The first list: stretches of calls for c, for others, or for all of them.
+/// The first list: stretches of calls for c, for others, or for all of them,
+/// and pump runs.
 fn first_list(script: &mut Script, channel: u8, others: &[u8], long: bool) -> Vec<Call> {
     let all = [&[channel, channel], others].concat();
     let length = script.random.within(10, 150) as usize;
     while script.length() < length {
         script.flavour = script.random.pick(FLAVOURS);
-        match script.random.below(11) {
+        match script.random.below(13) {
             0..=1 => watch(script, channel, others),
             2..=3 => stretch(script, &[channel]),
             4..=5 => stretch(script, others),
             6 => name_others(script, channel, others),
+            7..=8 => runs::pump_runs(script, channel, others),
             _ => stretch(script, &all),
         }
     }
@@ -202,7 +215,8 @@ fn watch(script: &mut Script, channel: u8, others: &[u8]) {
 }
 
 /// Ticks up to the ten-hour save and over it. c's InFlag is TRUE on the way,
-/// so that its operating count tells the tick of the save; then come pulses.
+/// so that its operating count, which gains 1 with every fourth tick, tells the
+/// tick of the save; then come pulses.
 fn go_through_save(script: &mut Script, channel: u8, others: &[u8]) {
     for _ in 0..5 {
         stretch(script, others);

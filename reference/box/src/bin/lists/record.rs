@@ -15,6 +15,7 @@
 //! | `end FIRST SECOND COUNT`   | reads of each register of c at the end     |
 //! | `kept FIRST SECOND COUNT`  | the store, for c's entry of the image      |
 //! | `other FIRST SECOND COUNT` | reads of each register of the strangers    |
+//! | `quarters FIRST SECOND COUNT` | further ticks that show c's quarters    |
 
 use crate::hypotheses;
 use crate::pair::Pair;
@@ -90,7 +91,8 @@ impl<W: Write> Record<W> {
         self.lists(pair)?;
         self.both("end", &pair.ending)?;
         self.both("kept", &[Call::Store(LENGTH)])?;
-        self.both("other", &pair.survey)
+        self.both("other", &pair.survey)?;
+        self.both("quarters", &pair.quarters)
     }
 
     /// Calls that stand in both files.
@@ -124,9 +126,10 @@ impl<W: Write> Record<W> {
     }
 }
 
-/// The hypotheses, asked of the whole lists: the reads at the end are theirs.
+/// The hypotheses, asked of the whole lists: the reads at the end are theirs,
+/// and so are the ticks after them.
 fn hold(pair: &Pair) -> Result<(), String> {
-    let whole = |list: &[Call]| [list, &pair.ending, &pair.survey].concat();
+    let whole = |list: &[Call]| [list, &pair.ending, &pair.survey, &pair.quarters].concat();
     let (first, second) = (whole(&pair.first), whole(&pair.second));
     let strangers = hypotheses::ask(&pair.image, pair.channel, &first, &second)?;
     if strangers != pair.strangers {

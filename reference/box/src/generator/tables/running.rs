@@ -110,3 +110,31 @@ pub(super) const ERRORS: Table = &[
     (1, act::refused_write),
     (1, act::refocus),
 ];
+
+/// Change 2: pump runs and their quarters.
+pub(super) const RUNS: Table = &[
+    (8, act::run),
+    (3, act::runs_between_looks),
+    (2, act::runs_on_looks),
+    (3, act::runs_together),
+    (24, act::quarters_through),
+    (3, act::run_to_the_end),
+    (2, act::save_in_quarters),
+    (3, act::set_any_in_flag),
+    (2, act::level),
+    (1, act::write_in_flags),
+    (4, act::tick),
+    (2, act::few_ticks),
+    (1, act::some_ticks),
+    (2, act::write_operating_time),
+    (2, act::refused_operating_time),
+    (4, act::read_operating_time),
+    (1, act::read_state),
+    (1, act::write_flag_reg),
+    (1, act::write_config),
+    (1, act::write_working),
+    (1, act::toggle_write_enable),
+    (1, act::reset),
+    (1, act::store),
+    (1, act::refocus),
+];

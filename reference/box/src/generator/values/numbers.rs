@@ -166,9 +166,14 @@ pub(super) fn preset(random: &mut Random, flavour: Flavour) -> i32 {
     }
 }
 
+/// A count; for runs mostly one of which a read shows each step.
 pub(super) fn count(random: &mut Random, flavour: Flavour) -> u32 {
-    let ends = if flavour == Flavour::Ends { 6 } else { 1 };
-    match random.weighted(&[(2, 0), (ends, 1), (1, 2)]) {
+    let (small, ends) = match flavour {
+        Flavour::Ends => (2, 6),
+        Flavour::Runs => (12, 1),
+        _ => (2, 1),
+    };
+    match random.weighted(&[(small, 0), (ends, 1), (1, 2)]) {
         0 => random.below(1000) as u32,
         1 => end_count(random),
         _ => random.word(),

@@ -1,4 +1,4 @@
-//! Step 5: looks at the feedback, and the operating count.
+//! Step 5: looks at the feedback, at every fourth tick.
 
 use super::*;
 
@@ -22,24 +22,17 @@ fn step_5_looks_at_out_flag_not_output() {
 #[test]
 fn looks_come_every_fourth_tick() {
     let mut bench = Bench::watchdog_off();
-    bench.device.level(1, true);
+    bench.configure(1, [0, 0x10, 2, 0]);
+    bench.device.level(2, true);
     let mut seen = Vec::new();
-    for _ in 0..9 {
+    for tick in 1..=13 {
+        bench.device.channels[0].fb_status = false;
         bench.ticks(1);
-        seen.push(bench.device.channels[0].operating);
+        if bench.device.channels[0].fb_status {
+            seen.push(tick);
+        }
     }
-    assert_eq!(seen, [0, 0, 0, 1, 1, 1, 1, 2, 2]);
-}
-
-#[test]
-fn the_operating_count_stops_at_its_end() {
-    let mut channel = with_channel([0; 4]);
-    channel.operating = u32::MAX - 1;
-    channel.in_flag = true;
-    for _ in 0..3 {
-        channel.tick(false, true, 0);
-    }
-    assert_eq!(channel.operating, u32::MAX);
+    assert_eq!(seen, [4, 8, 12]);
 }
 
 #[test]

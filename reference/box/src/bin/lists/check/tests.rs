@@ -1,12 +1,14 @@
+mod leaks;
+
 use super::*;
 use crate::pair::Pair;
 use crate::record::Record;
-use reference_box::player;
+use reference_box::player::{self, Device};
 use reference_box::ChannelBox;
 
 const SEED: u64 = 77;
 
-/// The files of some pairs, with the model's answers.
+/// The files of some pairs, with the answers of the model or of another box.
 struct Files {
     own: String,
     first_calls: String,
@@ -19,28 +21,33 @@ fn text(bytes: Vec<u8>) -> String {
     String::from_utf8(bytes).expect("plain characters")
 }
 
-fn played(script: &str) -> String {
+fn played(mut device: impl Device, script: &str) -> String {
     let mut answers = Vec::new();
-    let mut device = ChannelBox::default();
     player::play(&mut device, script.as_bytes(), &mut answers).expect("no failure in memory");
     text(answers)
 }
 
+/// Some pairs, written.
+fn made(pairs: u64) -> Record<Vec<u8>> {
+    let record = Record::new(Vec::new(), Vec::new(), Vec::new());
+    record.make(SEED, pairs).expect("the hypotheses hold")
+}
+
 impl Files {
-    fn of(record: Record<Vec<u8>>) -> Files {
+    /// Each list is played on a box of its own.
+    fn of<D: Device>(record: Record<Vec<u8>>, device: impl Fn() -> D) -> Files {
         let [first_calls, second_calls, own] = record.into_files().map(text);
         Files {
             own,
-            first_answers: played(&first_calls),
-            second_answers: played(&second_calls),
+            first_answers: played(device(), &first_calls),
+            second_answers: played(device(), &second_calls),
             first_calls,
             second_calls,
         }
     }
 
     fn made(pairs: u64) -> Files {
-        let record = Record::new(Vec::new(), Vec::new(), Vec::new());
-        Files::of(record.make(SEED, pairs).expect("the hypotheses hold"))
+        Files::of(made(pairs), ChannelBox::default)
     }
 
     fn check(&self) -> Result<String, String> {
@@ -163,6 +170,48 @@ fn a_register_refused_in_both_lists_shows_nothing() {
     files.assert_found(&["pair 1", "FlagReg", "where 0 is due"]);
 }
 
+/// Change 2: the further ticks show c's quarters.
+#[test]
+fn a_planted_quarter_is_found() {
+    for place in [2, 4, 6, 8, 10] {
+        let mut files = Files::made(3);
+        let line = files.second_lines(2, |pair| &pair.quarters)[place];
+        files.plant(line, 5, |buffer| other_digit(buffer, 1));
+        files.assert_found(&["seed 77, pair 2", "left-over quarters", "OperatingTime"]);
+    }
+}
+
+#[test]
+fn in_most_pairs_the_further_ticks_move_operating_time() {
+    let done = Files::made(100).check().expect("all the same");
+    let (_, end) = done.rsplit_once("; in ").expect("the last part");
+    let (count, rest) = end.split_once(' ').expect("a number");
+    assert_eq!(
+        rest,
+        "the channel's OperatingTime moved, by the same, in four ticks after the end"
+    );
+    let count: u32 = count.parse().expect("a number");
+    assert!((60..=100).contains(&count), "{done}");
+}
+
+/// A box whose OperatingTime stands still shows no quarters.
+#[test]
+fn operating_times_that_stand_still_show_nothing() {
+    let mut files = Files::made(2);
+    let pairs = Own::read(&files.own).expect("well formed").pairs;
+    for pair in pairs {
+        for place in [2, 4, 6, 8, 10] {
+            let (first, second) = pair.quarters[place];
+            files.plant(second, 5, |buffer| format!("00000000{}", &buffer[8..]));
+            let answers = std::mem::take(&mut files.second_answers);
+            files.second_answers = std::mem::take(&mut files.first_answers);
+            files.plant(first, 5, |buffer| format!("00000000{}", &buffer[8..]));
+            files.first_answers = std::mem::replace(&mut files.second_answers, answers);
+        }
+    }
+    files.assert_found(&["seed 77: nothing is shown", "never moved"]);
+}
+
 /// `own` with the lists changing places.
 fn swapped(own: &str) -> String {
     let swap = |line: &str| {
@@ -199,7 +248,7 @@ fn a_run_in_which_no_stranger_differs_fails() {
     pair.second = pair.first.clone();
     let mut record = Record::new(Vec::new(), Vec::new(), Vec::new());
     record.write(1, &pair).expect("no failure in memory");
-    let mut files = Files::of(record);
+    let mut files = Files::of(record, ChannelBox::default);
     files.own.insert_str(0, "seed 77 pairs 1\n");
     files.assert_found(&["seed 77: nothing is shown"]);
     Files::made(0).assert_found(&["nothing is shown"]);

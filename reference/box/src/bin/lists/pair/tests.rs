@@ -149,3 +149,64 @@ fn lookups_stand_alone_between_ticks() {
     };
     assert!(pairs_with(has) > 20);
 }
+
+/// c's channel after a list.
+fn after(pair: &Pair, list: &[Call]) -> reference_box::channel::Channel {
+    let mut device = ChannelBox::default();
+    device.power_up(&pair.image);
+    for call in list {
+        call.make(&mut device);
+    }
+    device.channels[usize::from(pair.channel) - 1]
+}
+
+/// Change 2: the further ticks have quarters to show, of a count whose steps
+/// a read shows.
+#[test]
+fn many_pairs_end_in_the_middle_of_quarters() {
+    for quarters in 0..4 {
+        let has = |pair: &Pair| {
+            let end = after(pair, &pair.first);
+            end.quarters == quarters && end.operating < 1 << 24
+        };
+        assert!(pairs_with(has) > 30, "{quarters}");
+    }
+}
+
+/// How many ticks of a list find InFlag of any stranger TRUE.
+fn strange_runs(pair: &Pair, list: &[Call]) -> u32 {
+    let mut device = ChannelBox::default();
+    device.power_up(&pair.image);
+    let mut runs = 0;
+    for call in list {
+        call.make(&mut device);
+        if let Call::Tick(count) = call {
+            let running = |other: &u8| device.channels[usize::from(*other) - 1].in_flag;
+            runs += count * u32::from(pair.strangers.iter().any(running));
+        }
+    }
+    runs
+}
+
+#[test]
+fn strangers_run_and_not_alike_in_both_lists() {
+    let has = |pair: &Pair| {
+        let first = strange_runs(pair, &pair.first);
+        first > 0 && first != strange_runs(pair, &pair.second)
+    };
+    assert!(pairs_with(has) > 200);
+}
+
+/// The further ticks run c, wired or simulated.
+#[test]
+fn the_further_ticks_run_c() {
+    for seed in 0..100 {
+        let pair = Pair::draw(seed, false);
+        let before = after(&pair, &pair.first);
+        let list = [&pair.first[..], &pair.quarters].concat();
+        let end = after(&pair, &list);
+        assert_eq!(end.operating, before.operating.saturating_add(1), "{seed}");
+        assert_eq!(end.quarters, before.quarters);
+        assert_eq!(pair.quarters.len(), runs::SHOWING);
+    }
+}
