@@ -51,7 +51,7 @@ extern "C" {
  * on top, and so does a dynamic linker that looks for memcpy or memset at their first call.
  */
 #define PD3120_STACK 4096
-#define PD3120_CALL_STACK 800 /* of a read, a write, a level, a current, a lookup or a tick */
+#define PD3120_CALL_STACK 800 /* of a read, a write, a sample, a lookup or a tick */
 
 /* A box. Only the library looks inside. */
 typedef struct pd3120_module {
@@ -72,7 +72,7 @@ enum pd3120_numbers {
     PD3120_BUFFER_TOO_SHORT = 5, /* On a read, buffer long enough? */
     PD3120_NOT_ENABLED = 6,      /* On a write of a protected register, WriteEnable TRUE? */
     PD3120_NOT_ALLOWED = 7,      /* On a write, value allowed? On a lookup, X finite? */
-    /* samples */
+    /* samples: 8, then 9 */
     PD3120_NO_CHANNEL = 8, /* Channel 1 to 16? */
     PD3120_NOT_FINITE = 9, /* Current finite? */
     /* power-up */
@@ -238,18 +238,12 @@ uint32_t pd3120_read(pd3120_module *module, uint16_t swno, uint8_t *buffer, size
 uint32_t pd3120_write(pd3120_module *module, uint16_t swno, const uint8_t *bytes, size_t length);
 
 /*
- * The level on a channel is sampled. A change from off to on adds 1 to its Counter.
- * Answers number 0 or 8.
- * Changes that channel, nothing where it is refused or the channel's input is simulated.
- */
-uint32_t pd3120_level(pd3120_module *module, uint8_t channel, bool on);
-
-/*
- * The load current of a channel is measured. Above 2 A it trips.
+ * A channel's terminal is sampled: its level, then its load current. A change of the level from off
+ * to on adds 1 to Counter, but a simulated input does not take the level. A current above 2 A trips.
  * Answers number 0, 8 or 9.
- * Changes that channel, nothing where it is refused.
+ * Changes that channel. Where it is refused, it does neither of the two and changes nothing.
  */
-uint32_t pd3120_current(pd3120_module *module, uint8_t channel, float amperes);
+uint32_t pd3120_sample(pd3120_module *module, uint8_t channel, bool level, float amperes);
 
 /*
  * The Y of a level table, 1 for LookUp1 or 2 for LookUp2, for an X: Y1 at or below X1, Y10 above X10,
@@ -325,16 +319,10 @@ static inline uint32_t pd3120_checked_write(pd3120_module *module, uint16_t swno
     return refusal != PD3120_DONE ? refusal : pd3120_write(module, swno, pd3120_given(bytes), length);
 }
 
-static inline uint32_t pd3120_checked_level(pd3120_module *module, uint8_t channel, bool on)
+static inline uint32_t pd3120_checked_sample(pd3120_module *module, uint8_t channel, bool level, float amperes)
 {
     uint32_t refusal = pd3120_check(module, NULL, 0);
-    return refusal != PD3120_DONE ? refusal : pd3120_level(module, channel, on);
-}
-
-static inline uint32_t pd3120_checked_current(pd3120_module *module, uint8_t channel, float amperes)
-{
-    uint32_t refusal = pd3120_check(module, NULL, 0);
-    return refusal != PD3120_DONE ? refusal : pd3120_current(module, channel, amperes);
+    return refusal != PD3120_DONE ? refusal : pd3120_sample(module, channel, level, amperes);
 }
 
 /* Answers number 0 where the tick has run. */

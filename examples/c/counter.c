@@ -13,9 +13,9 @@ int main(void)
     printf("Power-up: %u. %s\n", (unsigned)pd3120_number(answer), pd3120_reason(answer));
 
     for (int pulse = 0; pulse < 3; pulse++) {
-        pd3120_checked_level(&box, 4, true);
+        pd3120_checked_sample(&box, 4, true, 0.0f);
         pd3120_checked_tick(&box);
-        pd3120_checked_level(&box, 4, false);
+        pd3120_checked_sample(&box, 4, false, 0.0f);
         pd3120_checked_tick(&box);
     }
 

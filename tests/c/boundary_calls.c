@@ -136,45 +136,20 @@ void wire_calls(void)
     CHECK(code == (PD3120_BEYOND | 1u << 24 | 1u << 25));
 }
 
-void samples(void)
+/* The currents of samples, on channel 16 of a box just powered up. */
+static void sampled_currents(void)
 {
     static const uint8_t on[1] = {0x80};
-    static const uint8_t one[4] = {0, 0, 0, 1}, three[4] = {0, 0, 0, 3};
-
-    CHECK(power_up(image, PD3120_IMAGE_SIZE) == PD3120_DONE);
-    pd3120_module before = *box;
-    static const uint8_t outside[] = {0, 17, 128, 255};
-    for (size_t i = 0; i < sizeof outside; i++) {
-        CHECK(pd3120_level(box, outside[i], true) == PD3120_NO_CHANNEL);
-        CHECK(pd3120_current(box, outside[i], 1.0f) == PD3120_NO_CHANNEL);
-        CHECK(!pd3120_output(box, outside[i]));
-    }
-    CHECK(pd3120_current(box, 1, NAN) == PD3120_NOT_FINITE);
-    CHECK(pd3120_current(box, 1, INFINITY) == PD3120_NOT_FINITE);
-    CHECK(pd3120_current(box, 16, -INFINITY) == PD3120_NOT_FINITE);
-    CHECK(alike(box, &before));
-
-    /* A level is any true or false of C. Counter of channel 1 is 1 in the image. */
-    int truth = 256;
-    CHECK(reads(0x12, one, 4));
-    CHECK(pd3120_level(box, 1, true) == PD3120_DONE);
-    CHECK(reads(0x10, (const uint8_t[]){0x40}, 1));
-    CHECK(pd3120_level(box, 1, true) == PD3120_DONE);
-    CHECK(pd3120_level(box, 1, false) == PD3120_DONE);
-    CHECK(reads(0x10, (const uint8_t[]){0x00}, 1));
-    CHECK(pd3120_level(box, 1, truth) == PD3120_DONE);
-    CHECK(reads(0x10, (const uint8_t[]){0x40}, 1));
-    CHECK(reads(0x12, three, 4));
 
     /* A current arrives with all its bits. */
     static const struct {
         float amperes;
         uint32_t bits;
-    } currents[] = {{1.5f, 0x3FC00000}, {-0.0f, 0x80000000}, {0x1p-149f, 1}, {0.1f, 0x3DCCCCCD}, {-0x1.fffffep127f, 0xFF7FFFFF}};
-    for (size_t i = 0; i < sizeof currents / sizeof currents[0]; i++) {
+    } measured[] = {{1.5f, 0x3FC00000}, {-0.0f, 0x80000000}, {0x1p-149f, 1}, {0.1f, 0x3DCCCCCD}, {-0x1.fffffep127f, 0xFF7FFFFF}};
+    for (size_t i = 0; i < sizeof measured / sizeof measured[0]; i++) {
         uint8_t bytes[4];
-        put32(bytes, currents[i].bits);
-        CHECK(pd3120_current(box, 16, currents[i].amperes) == PD3120_DONE);
+        put32(bytes, measured[i].bits);
+        CHECK(pd3120_sample(box, 16, false, measured[i].amperes) == PD3120_DONE);
         CHECK(reads(0x103, bytes, 4));
     }
 
@@ -183,10 +158,47 @@ void samples(void)
     CHECK(wire_write(0x100, on, 1) == PD3120_DONE);
     for (uint8_t channel = 0; channel < 255; channel++)
         CHECK(pd3120_output(box, channel) == (channel == 16));
-    CHECK(pd3120_current(box, 16, 2.0f) == PD3120_DONE);
+    CHECK(pd3120_sample(box, 16, false, 2.0f) == PD3120_DONE);
     CHECK(pd3120_output(box, 16));
-    CHECK(pd3120_current(box, 16, 2.5f) == PD3120_DONE);
+
+    /* One sample trips and counts its rise. Counter of channel 16 is -16 in the image. */
+    CHECK(reads(0x102, (const uint8_t[]){0xFF, 0xFF, 0xFF, 0xF0}, 4));
+    CHECK(pd3120_sample(box, 16, true, 2.5f) == PD3120_DONE);
     CHECK(!pd3120_output(box, 16));
+    CHECK(reads(0x102, (const uint8_t[]){0xFF, 0xFF, 0xFF, 0xF1}, 4));
+    CHECK(reads(0x103, (const uint8_t[]){0x40, 0x20, 0, 0}, 4));
+}
+
+void samples(void)
+{
+    static const uint8_t one[4] = {0, 0, 0, 1}, three[4] = {0, 0, 0, 3};
+
+    CHECK(power_up(image, PD3120_IMAGE_SIZE) == PD3120_DONE);
+    pd3120_module before = *box;
+    static const uint8_t outside[] = {0, 17, 128, 255};
+    for (size_t i = 0; i < sizeof outside; i++) {
+        CHECK(pd3120_sample(box, outside[i], true, 1.0f) == PD3120_NO_CHANNEL);
+        CHECK(pd3120_sample(box, outside[i], true, NAN) == PD3120_NO_CHANNEL);
+        CHECK(!pd3120_output(box, outside[i]));
+    }
+    CHECK(pd3120_sample(box, 1, true, NAN) == PD3120_NOT_FINITE);
+    CHECK(pd3120_sample(box, 1, true, INFINITY) == PD3120_NOT_FINITE);
+    CHECK(pd3120_sample(box, 16, true, -INFINITY) == PD3120_NOT_FINITE);
+    CHECK(alike(box, &before));
+
+    /* A level is any true or false of C. Counter of channel 1 is 1 in the image. */
+    int truth = 256;
+    CHECK(reads(0x12, one, 4));
+    CHECK(pd3120_sample(box, 1, true, 0.0f) == PD3120_DONE);
+    CHECK(reads(0x10, (const uint8_t[]){0x40}, 1));
+    CHECK(pd3120_sample(box, 1, true, 0.0f) == PD3120_DONE);
+    CHECK(pd3120_sample(box, 1, false, 0.0f) == PD3120_DONE);
+    CHECK(reads(0x10, (const uint8_t[]){0x00}, 1));
+    CHECK(pd3120_sample(box, 1, truth, 0.0f) == PD3120_DONE);
+    CHECK(reads(0x10, (const uint8_t[]){0x40}, 1));
+    CHECK(reads(0x12, three, 4));
+
+    sampled_currents();
 
     /* Each tick adds 8 to FreeRunTimer. */
     for (int tick = 0; tick < 3; tick++)

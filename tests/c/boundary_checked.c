@@ -28,8 +28,7 @@ void exact_blocks(void)
             CHECK(pd3120_number(code) <= PD3120_NOT_ALLOWED);
             free(buffer);
         }
-    CHECK(pd3120_level(module, 16, true) == PD3120_DONE);
-    CHECK(pd3120_current(module, 16, 1.0f) == PD3120_DONE);
+    CHECK(pd3120_sample(module, 16, true, 1.0f) == PD3120_DONE);
     pd3120_tick(module);
     CHECK(!pd3120_output(module, 16));
     CHECK(pd3120_look_up_number(pd3120_look_up(module, 2, 1.0f)) == PD3120_DONE);
@@ -61,10 +60,9 @@ void checked_calls(void)
     CHECK(memcmp(bytes, image, sizeof image) == 0);
     CHECK(pd3120_checked_write(box, 0x10, history, 1) == pd3120_write(&twin, 0x10, history, 1));
     CHECK(pd3120_checked_read(box, 0x10, bytes, 1) == (1u << 8 | 1u << 25) && bytes[0] == 0x80);
-    CHECK(pd3120_checked_level(box, 1, true) == pd3120_level(&twin, 1, true));
-    CHECK(pd3120_checked_level(box, 17, true) == PD3120_NO_CHANNEL);
-    CHECK(pd3120_checked_current(box, 1, 1.5f) == pd3120_current(&twin, 1, 1.5f));
-    CHECK(pd3120_checked_current(box, 1, NAN) == PD3120_NOT_FINITE);
+    CHECK(pd3120_checked_sample(box, 1, true, 1.5f) == pd3120_sample(&twin, 1, true, 1.5f));
+    CHECK(pd3120_checked_sample(box, 17, true, 1.5f) == PD3120_NO_CHANNEL);
+    CHECK(pd3120_checked_sample(box, 1, false, NAN) == PD3120_NOT_FINITE);
     CHECK(alike(box, &twin));
     CHECK(pd3120_checked_tick(box) == PD3120_DONE);
     CHECK(!alike(box, &twin));
@@ -87,8 +85,7 @@ void checked_calls(void)
         CHECK(pd3120_checked_store(bad, bytes, sizeof bytes) == PD3120_BAD_MODULE);
         CHECK(pd3120_checked_read(bad, 0x10, bytes, 1) == PD3120_BAD_MODULE);
         CHECK(pd3120_checked_write(bad, 0x10, bytes, 1) == PD3120_BAD_MODULE);
-        CHECK(pd3120_checked_level(bad, 1, false) == PD3120_BAD_MODULE);
-        CHECK(pd3120_checked_current(bad, 1, 3.0f) == PD3120_BAD_MODULE);
+        CHECK(pd3120_checked_sample(bad, 1, false, 3.0f) == PD3120_BAD_MODULE);
         CHECK(pd3120_checked_tick(bad) == PD3120_BAD_MODULE);
         CHECK(pd3120_checked_output(bad, 2, &on) == PD3120_BAD_MODULE && on);
         CHECK(pd3120_checked_look_up(bad, 2, 1.0f, &level) == PD3120_BAD_MODULE && level == -1.0f);

@@ -217,7 +217,7 @@ static void errors(void)
     const struct channel *first = &seen.channels[0];
 
     /* An input has no OutFlag. */
-    pd3120_level(&box, 1, true);
+    pd3120_sample(&box, 1, true, 0.0f);
     put(0x10, out_flag, 1);
     check(first->flags.in_flag && !first->flags.out_flag, "InFlag");
     check(first->errors.act == PRG_ERROR && first->errors.his == PRG_ERROR, "PrgError");
@@ -227,17 +227,17 @@ static void errors(void)
     check(first->flags.out_flag && first->flags.fb_status, "OutFlag and FBStatus");
     check(first->errors.act == 0 && first->errors.his == PRG_ERROR, "PrgError, cleared in Act");
     /* On, with no current, and no level here and on channel 3. */
-    pd3120_level(&box, 1, false);
+    pd3120_sample(&box, 1, false, 0.0f);
     pd3120_tick(&box);
     look();
     check(first->errors.act == (UNDERLOAD | INTERNAL_DISCONNECTION | FEEDBACK_ERROR), "UnderLoad and two more");
     check(first->errors.his == (first->errors.act | PRG_ERROR), "UnderLoad and two more, in His");
-    pd3120_current(&box, 1, 2.5f);
+    pd3120_sample(&box, 1, false, 2.5f);
     look();
     check(!first->flags.out_flag, "OutFlag after a trip");
     check((first->errors.act & first->errors.his & OVERLOAD) != 0, "OverLoad");
     /* Off, with a current and a level. */
-    pd3120_level(&box, 1, true);
+    pd3120_sample(&box, 1, true, 2.5f);
     pd3120_tick(&box);
     look();
     check((first->errors.act & EXTERNAL_SHORTCIR_ERROR) != 0, "ExternalShortcirError");

@@ -27,16 +27,15 @@ static void check(bool holds, const char *what)
 
 /* ---- calls ---- */
 
-enum kind { POWER_UP, STORE, READ, WRITE, LEVEL, CURRENT, LOOK_UP, TICK, OUTPUT, KINDS, NOTHING, KNOWN };
+enum kind { POWER_UP, STORE, READ, WRITE, SAMPLE, LOOK_UP, TICK, OUTPUT, KINDS, NOTHING, KNOWN };
 
-static const char *const names[KINDS] = {"power_up", "store",   "read", "write", "level",
-                                         "current",  "look_up", "tick", "output"};
+static const char *const names[KINDS] = {"power_up", "store", "read", "write", "sample", "look_up", "tick", "output"};
 
 struct call {
     enum kind kind;
     uint16_t swno;
     uint8_t channel;
-    bool on;
+    bool level;
     float amperes;
     uint8_t table;
     float x;
@@ -79,8 +78,7 @@ static void make(void)
     case STORE: answer = pd3120_store(&box, buffer, call.length); break;
     case READ: answer = pd3120_read(&box, call.swno, buffer, call.length); break;
     case WRITE: answer = pd3120_write(&box, call.swno, buffer, call.length); break;
-    case LEVEL: answer = pd3120_level(&box, call.channel, call.on); break;
-    case CURRENT: answer = pd3120_current(&box, call.channel, call.amperes); break;
+    case SAMPLE: answer = pd3120_sample(&box, call.channel, call.level, call.amperes); break;
     case LOOK_UP: answer = pd3120_look_up(&box, call.table, call.x); break;
     case TICK: pd3120_tick(&box); break;
     case OUTPUT: answer = pd3120_output(&box, call.channel); break;
@@ -185,8 +183,7 @@ static void set_up(uint8_t functions)
         put(swno + 8, tenth, 4);
         put(swno + 0xA, tenth, 4);
         put(swno, flags, 1);
-        pd3120_level(&box, channel, channel % 2 == 0);
-        pd3120_current(&box, channel, (float)channel / 7);
+        pd3120_sample(&box, channel, channel % 2 == 0, (float)channel / 7);
     }
 }
 
@@ -252,13 +249,9 @@ static void samples_and_outputs(void)
 
     for (unsigned channel = 0; channel <= UINT8_MAX; channel++) {
         const uint8_t number = (uint8_t)channel;
-        for (int on = 0; on <= 1; on++) {
+        for (size_t i = 0; i < 2 * (sizeof amperes / sizeof amperes[0]); i++) {
             box = before;
-            measure((struct call){.kind = LEVEL, .channel = number, .on = on != 0});
-        }
-        for (size_t i = 0; i < sizeof amperes / sizeof amperes[0]; i++) {
-            box = before;
-            measure((struct call){.kind = CURRENT, .channel = number, .amperes = amperes[i]});
+            measure((struct call){.kind = SAMPLE, .channel = number, .level = i % 2 != 0, .amperes = amperes[i / 2]});
         }
         box = before;
         measure((struct call){.kind = OUTPUT, .channel = number});
@@ -385,8 +378,7 @@ static size_t bound_of(enum kind kind)
     switch (kind) {
     case READ:
     case WRITE:
-    case LEVEL:
-    case CURRENT:
+    case SAMPLE:
     case LOOK_UP:
     case TICK:
         return PD3120_CALL_STACK;

@@ -30,8 +30,7 @@ extern "C" {
     fn pd3120_store(m: *const Module, buffer: *mut u8, length: usize) -> u32;
     fn pd3120_read(m: *mut Module, swno: u16, buffer: *mut u8, length: usize) -> u32;
     fn pd3120_write(m: *mut Module, swno: u16, bytes: *const u8, length: usize) -> u32;
-    fn pd3120_level(m: *mut Module, channel: u8, on: bool) -> u32;
-    fn pd3120_current(m: *mut Module, channel: u8, amperes: f32) -> u32;
+    fn pd3120_sample(m: *mut Module, channel: u8, level: bool, amperes: f32) -> u32;
     fn pd3120_look_up(m: *const Module, table: u8, x: f32) -> u64;
     fn pd3120_tick(m: *mut Module);
     fn pd3120_output(m: *const Module, channel: u8) -> bool;
@@ -75,17 +74,10 @@ impl Module {
     }
 
     #[inline]
-    pub fn level(&mut self, channel: u8, on: bool) -> u32 {
-        // SAFETY: `self` is a valid module that nobody else can reach during the
-        // call; any channel number is a value that the function takes.
-        unsafe { pd3120_level(self, channel, on) }
-    }
-
-    #[inline]
-    pub fn current(&mut self, channel: u8, amperes: f32) -> u32 {
+    pub fn sample(&mut self, channel: u8, level: bool, amperes: f32) -> u32 {
         // SAFETY: `self` is a valid module that nobody else can reach during the
         // call; any channel number and any Real are values that the function takes.
-        unsafe { pd3120_current(self, channel, amperes) }
+        unsafe { pd3120_sample(self, channel, level, amperes) }
     }
 
     #[inline]

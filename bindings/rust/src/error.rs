@@ -25,7 +25,7 @@ pub enum Refusal {
     NotAllowed = 7,
     /// A sample: the channel is not from 1 to 16.
     NoChannel = 8,
-    /// A current: it is no finite Real.
+    /// A sample: the current is no finite Real. This is asked after the channel.
     NotFinite = 9,
     /// Power-up: the image has neither 717 nor 886 bytes.
     ImageLength = 10,

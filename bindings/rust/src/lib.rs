@@ -1,10 +1,10 @@
 //! The PD 3120 channel box, proved, as a safe Rust type.
 //!
 //! The box is the Rattle library of this repository: every call does what
-//! document 01 and Change 1 of document 02 say, for any box, call and buffer, and
-//! this is proved. [`Pd3120`] reaches it through its C boundary. That this package
-//! declares the boundary as it is, no proof says; its tests and `tests/rust`
-//! compare it.
+//! document 01 and Changes 1 to 3 of document 02 say, for any box, call and
+//! buffer, and this is proved. [`Pd3120`] reaches it through its C boundary. That
+//! this package declares the boundary as it is, no proof says; its tests and
+//! `tests/rust` compare it.
 //!
 //! `./pd3120 lib` builds the library's archive, which is linked in. PD3120_LIB
 //! can name another folder that has it.
@@ -18,8 +18,8 @@
 //! let mut module = Pd3120::default();
 //!
 //! // A pulse of the water meter on channel 4, and its Counter over the wire.
-//! module.level(4, true)?;
-//! module.level(4, false)?;
+//! module.sample(4, true, 0.0)?;
+//! module.sample(4, false, 0.0)?;
 //! let mut counter = [0; 4];
 //! let answer = module.read(0x42, &mut counter)?;
 //! assert_eq!((answer.length, i32::from_be_bytes(counter)), (4, 1));
@@ -133,17 +133,40 @@ impl Pd3120 {
         code::wire(self.module.write(swno, bytes))
     }
 
-    /// A level of a channel's terminal.
+    /// A sample of a channel's terminal: its level, then its load current. A rise
+    /// of the level adds 1 to Counter, a current above 2 A trips the output, and
+    /// one sample can do both. A refused sample does neither. No wire call: the
+    /// watchdog goes on.
+    ///
+    /// ```
+    /// use pd3120::{Pd3120, Refusal};
+    ///
+    /// // Channel 4 drives a valve (Functions $10), which is opened.
+    /// let mut module = Pd3120::default();
+    /// module.write(0x0D, &[1])?; // WriteEnable
+    /// module.write(0x49, &[0, 0x10, 0, 0])?; // ChConfig
+    /// module.write(0x40, &[0x80])?; // FlagReg
+    /// module.sample(4, true, 0.5)?;
+    /// assert!(module.output(4));
+    ///
+    /// // A measured current that is no number: the level is not taken either.
+    /// let broken = module.sample(4, false, f32::NAN).unwrap_err();
+    /// assert_eq!(broken.refusal, Refusal::NotFinite);
+    /// let none = module.sample(17, false, f32::NAN).unwrap_err();
+    /// assert_eq!(none.refusal, Refusal::NoChannel);
+    ///
+    /// // A fall, and then a rise with too much current: it counts, and it trips.
+    /// module.sample(4, false, 0.5)?;
+    /// module.sample(4, true, 2.5)?;
+    /// assert!(!module.output(4));
+    /// let mut counter = [0; 4];
+    /// module.read(0x42, &mut counter)?;
+    /// assert_eq!(i32::from_be_bytes(counter), 2);
+    /// # Ok::<(), pd3120::Error>(())
+    /// ```
     #[inline]
-    pub fn level(&mut self, channel: u8, on: bool) -> Result<(), Error> {
-        code::plain(self.module.level(channel, on))?;
-        Ok(())
-    }
-
-    /// A load current of a channel, in amperes.
-    #[inline]
-    pub fn current(&mut self, channel: u8, amperes: f32) -> Result<(), Error> {
-        code::plain(self.module.current(channel, amperes))?;
+    pub fn sample(&mut self, channel: u8, level: bool, amperes: f32) -> Result<(), Error> {
+        code::plain(self.module.sample(channel, level, amperes))?;
         Ok(())
     }
 

@@ -24,7 +24,7 @@ fn a_box_is_its_module_and_nothing_else() {
 fn pulses_are_counted() {
     let mut module = Pd3120::default();
     for on in [true, false, true, false, true] {
-        module.level(4, on).expect("channel 4");
+        module.sample(4, on, 0.0).expect("channel 4");
     }
     assert_eq!(word(&mut module, 0x42), [0, 0, 0, 3]);
     assert_eq!(word(&mut module, 0x52), [0; 4]);
@@ -50,7 +50,7 @@ fn a_write_answers_no_length_and_is_read_back() {
 fn a_current_goes_over_as_its_bits() {
     let mut module = Pd3120::default();
     for amperes in [0.0, -0.0, 1.5, f32::MIN_POSITIVE / 2.0, -f32::MAX] {
-        module.current(3, amperes).expect("finite");
+        module.sample(3, false, amperes).expect("finite");
         assert_eq!(word(&mut module, 0x33), amperes.to_be_bytes());
     }
 }
@@ -59,12 +59,34 @@ fn a_current_goes_over_as_its_bits() {
 fn a_current_above_two_amperes_trips_the_output() {
     let mut module = used();
     assert!(module.output(4));
-    module.current(4, 2.0).expect("finite");
+    module.sample(4, true, 2.0).expect("finite");
     assert!(module.output(4));
     let above = f32::from_bits(2.0_f32.to_bits() + 1);
-    module.current(4, above).expect("finite");
+    module.sample(4, true, above).expect("finite");
     assert!(!module.output(4));
     assert_eq!(word(&mut module, 0x4F)[2] & 0x40, 0x40);
+}
+
+#[test]
+fn a_sample_that_trips_counts_its_rise() {
+    let mut module = used();
+    let counter = i32::from_be_bytes(word(&mut module, 0x42));
+    module.sample(4, false, 0.5).expect("finite");
+    module.sample(4, true, 2.5).expect("finite");
+    assert!(!module.output(4));
+    assert_eq!(word(&mut module, 0x42), (counter + 1).to_be_bytes());
+    assert_eq!(word(&mut module, 0x43), 2.5_f32.to_be_bytes());
+}
+
+#[test]
+fn a_refused_sample_takes_neither_its_level_nor_its_current() {
+    let mut module = used();
+    let before = shown(&module);
+    for amperes in [f32::NAN, f32::INFINITY, f32::NEG_INFINITY] {
+        module.sample(4, false, amperes).expect_err("not finite");
+        module.sample(1, true, amperes).expect_err("not finite");
+    }
+    assert_eq!(shown(&module), before);
 }
 
 #[test]
@@ -180,7 +202,7 @@ fn a_clone_goes_its_own_way() {
     let module = used();
     let mut other = module.clone();
     assert_eq!(shown(&other), shown(&module));
-    other.level(4, false).expect("channel 4");
+    other.sample(4, false, 0.0).expect("channel 4");
     assert_ne!(shown(&other), shown(&module));
     assert_eq!(shown(&module), shown(&used()));
 }

@@ -68,12 +68,13 @@ fn each_sample_is_refused_by_its_number() {
     let mut module = used();
     let before = shown(&module);
     let refused = [
-        (8, module.level(0, true)),
-        (8, module.level(17, false)),
-        (8, module.current(255, 1.0)),
-        (8, module.current(0, f32::NAN)),
-        (9, module.current(1, f32::NAN)),
-        (9, module.current(16, f32::NEG_INFINITY)),
+        (8, module.sample(0, true, 0.0)),
+        (8, module.sample(17, false, 0.0)),
+        (8, module.sample(255, true, 1.0)),
+        (8, module.sample(0, true, f32::NAN)),
+        (9, module.sample(1, true, f32::NAN)),
+        (9, module.sample(4, false, f32::INFINITY)),
+        (9, module.sample(16, true, f32::NEG_INFINITY)),
     ];
     for (number, answer) in refused {
         let error = answer.unwrap_err();

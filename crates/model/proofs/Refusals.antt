@@ -21,11 +21,9 @@ use Rattle.model.specs.Image as Image
 use Rattle.model.specs.Restored.{poweredUp, zeroSetup}
 use Rattle.model.specs.Reads.{pairsBytes}
 use Rattle.model.specs.Writes.{sharedWritten, written}
-use Rattle.model.specs.Questions.{Question, asked, refusalNumber, numberOf, readQuestions, writeQuestions, levelQuestions, currentQuestions}
-use Rattle.model.specs.Questions.{lookUpQuestions}
-use Rattle.model.specs.Questions.{powerUpQuestions, storeQuestions, readReply, writeReply, levelReply, currentReply, lookUpReply, powerUpReply}
-use Rattle.model.specs.Questions.{storeReply}
-use Rattle.model.specs.Calls.{Request, read, write, level, current, lookUp, tick, sortOf, step, cleared, watchdogPreset, thenPreset, readAs}
+use Rattle.model.specs.Questions.{Question, asked, refusalNumber, numberOf, readQuestions, writeQuestions, sampleQuestions, lookUpQuestions}
+use Rattle.model.specs.Questions.{powerUpQuestions, storeQuestions, readReply, writeReply, sampleReply, lookUpReply, powerUpReply, storeReply}
+use Rattle.model.specs.Calls.{Request, read, write, sample, lookUp, tick, sortOf, step, cleared, watchdogPreset, thenPreset, readAs}
 use Rattle.model.specs.Calls.{writtenAs, lookedUpAs}
 use Rattle.model.specs.Calls.{plainAnswer, sampledAs, powerUp, poweredUpAs, powerUpAnswer, storeFills, stored, storeAnswer}
 use Rattle.model.specs.Refusals.{Asked, AllYes, FirstNo, Decides, Decided, Refusals, wireRefused, plainlyRefused, refusedBy, InOrder}
@@ -122,13 +120,12 @@ number-is (q ∷ qs) n = go (q .yes) (number-is qs n)
     go false later = refl
 
 decided : Decided
-unfolding step readReply writeReply levelReply currentReply lookUpReply powerUpAnswer powerUpReply storeAnswer storeReply
+unfolding step readReply writeReply sampleReply lookUpReply powerUpAnswer powerUpReply storeAnswer storeReply
 decided =
     record {
       reads = λ m n lent. decides _ _ tt (number-is (readQuestions n (place n) lent) _);
       writes = λ m n bs. decides _ _ tt (number-is (writeQuestions (writeEnable (m .shared)) n (place n) bs) 0);
-      levels = λ m k b. decides _ _ tt (number-is (levelQuestions k) 0);
-      currents = λ m k x. decides _ _ tt (number-is (currentQuestions k x) 0);
+      samples = λ m k b x. decides _ _ tt (number-is (sampleQuestions k x) 0);
       look-ups = λ m k x. decides _ _ tt (number-is (lookUpQuestions k x) 0);
       power-ups = λ img. decides _ _ tt (number-is (powerUpQuestions img) 0);
       stores = λ m lent. decides _ _ tt (number-is (storeQuestions lent) _);
@@ -157,8 +154,7 @@ unchanged : (m : Module) (x : Request) (n : ℕ) → step m x .answer .number �
 unfolding step
 unchanged m (read n lent) k h = read-refused (readReply n (place n) lent) (place n) lent m k h
 unchanged m (write n bs) k h = write-refused (writeReply (writeEnable (m .shared)) n (place n) bs) (place n) bs m k h
-unchanged m (level i b) k h = sample-refused (levelReply i) i _ m k h
-unchanged m (current i x) k h = sample-refused (currentReply i x) i _ m k h
+unchanged m (sample i b x) k h = sample-refused (sampleReply i x) i _ m k h
 unchanged m (lookUp i x) k h = look-up-refused (lookUpReply i x) i x m k h
 unchanged m tick k h = none h
 
@@ -186,7 +182,7 @@ refusals = record { decided = decided; unchanged = unchanged; start = start; sto
 
 -- ---- an instance of every number, by computation
 pub in-order : InOrder
-unfolding step place readReply writeReply levelReply currentReply lookUpReply powerUpReply storeReply powerUpAnswer storeAnswer written sharedWritten cleared
+unfolding step place readReply writeReply sampleReply lookUpReply powerUpReply storeReply powerUpAnswer storeAnswer written sharedWritten cleared
     watchdogPreset poweredUp Image.configAllowed Image.moduleConfigAllowed Image.sizeRight Image.countsRight Image.sumRight Image.valuesAllowed
     Image.entriesAllowed Image.entryAllowed Image.encode Image.framed Image.summed Image.setupFrom Image.version Image.split Image.contents Image.keptBytes
     Image.keptFrom Image.pairsFrom Image.pairsAllowed Image.keptAllowed Image.countsMatch Image.allAllowed Image.moduleAllowed Image.entriesBytes

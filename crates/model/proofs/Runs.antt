@@ -37,14 +37,14 @@ use Rattle.model.specs.Image as Image
 use Rattle.model.specs.Restored as Restored
 use Rattle.model.specs.Questions as Questions
 use Rattle.model.specs.Questions.{accepted}
-use Rattle.model.specs.Calls.{Request, read, write, level, current, lookUp, tick, sortOf, step, run, cleared, watchdogPreset}
+use Rattle.model.specs.Calls.{Request, read, write, sample, lookUp, tick, sortOf, step, run, cleared, watchdogPreset}
 use Rattle.model.specs.Calls.{readLeaves, writeLeaves, sampleLeaves, powerUp, poweredUpAs}
 use Rattle.model.specs.Runs.{timeOf, ticksBy, ticksOn, givesBy, gives, RunsAddUp, Runs}
 use Rattle.model.proofs.Laws.Tests.{either, neither}
 use Rattle.model.proofs.Laws.Lists.{length-each, at-each, at-map}
 use Rattle.model.proofs.Laws.Places.{place-cases, digital-place}
 use Rattle.model.proofs.Laws.Replies.{not-zero}
-use Rattle.model.proofs.Laws.Inputs.{Inputs, inputs, given, taken, kept-if, time-kept-if, operated-in, tick-in, in-level, in-current, in-tick}
+use Rattle.model.proofs.Laws.Inputs.{Inputs, inputs, given, taken, kept-if, time-kept-if, operated-in, tick-in, in-sample, in-tick}
 use Rattle.model.proofs.Laws.InputRegisters.{write-in, in-written, in-read, every-in, in-every, common-in, in-common}
 
 -- ---- what each register does to it
@@ -188,8 +188,9 @@ module _ (c : ℕ) (1≤c : 1 ≤ c) (c≤16 : c ≤ 16) where
   unfolding step cleared watchdogPreset
   step-time m l (read n lent) e = read-time (cleared m) l (Questions.readReply n (place n) lent) n
   step-time m l (write n bs) e = write-time (cleared m) l (Questions.writeReply (writeEnable (m .shared)) n (place n) bs) n bs e
-  step-time m l (level k b) e = sample-left m l (Questions.levelReply k) k (Rules.takeLevel b) (λ ch. ap time (in-level b ch) ∙ taken-leaves _ _ (inputs ch))
-  step-time m l (current k x) e = sample-left m l (Questions.currentReply k x) k (Rules.takeCurrent (m .shared) x) (λ ch. ap time (in-current (m .shared) x ch))
+  step-time m l (sample k b x) e =
+      sample-left m l (Questions.sampleReply k x) k (Rules.takeSample (m .shared) b x)
+      (λ ch. ap time (in-sample (m .shared) b x ch) ∙ taken-leaves _ _ (inputs ch))
   step-time m l (lookUp k x) e = (l, refl)
   step-time m l tick e = let h = ticked-time m l in (h .0, h .1 ∙ on-time (inFlag (channelAt m c)) (timeOf m c))
 

@@ -6,3 +6,4 @@ pub mod Saves
 pub mod Image
 pub mod Levels
 pub mod Runs
+pub mod Samples

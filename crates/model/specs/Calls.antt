@@ -1,5 +1,5 @@
--- Document 01, Calls 1 to 8, with Questions 16 to 18 and Setup image 4, and document 02, Change 1, 3: what each call answers and leaves, for any box, call and
--- buffer; a list of calls; power-up and storing. Definitions only.
+-- Document 01, Calls 1 to 8, with Questions 16 to 18 and Setup image 4, and document 02, Change 1, 3, and Change 3, 2 to 4: what each call answers and leaves,
+-- for any box, call and buffer; a list of calls; power-up and storing. Definitions only.
 use mathlib.Core.Bool.{Bool, false}
 use mathlib.Core.List.{List, [], _∷_, _++_}
 use Prim.Native.Nat.{ℕ}
@@ -11,7 +11,7 @@ use Rattle.model.specs.declared.Module.{Module}
 use Rattle.model.specs.declared.Reply.{Reply}
 use Rattle.model.specs.declared.Reply.the-variants.{Done, Refused}
 use Rattle.model.specs.State.{wdTimer, wdPreset, writeEnable, serviceOf, dataChannel, withServiceRecord, channelAt, putChannel}
-use Rattle.model.specs.Channel.{takeLevel, takeCurrent}
+use Rattle.model.specs.Channel.{takeSample}
 use Rattle.model.specs.Errors.{dataError, generalError}
 use Rattle.model.specs.Registers.{Place, channelOf, place}
 use Rattle.model.specs.Lookup.{levelBits}
@@ -20,14 +20,13 @@ use Rattle.model.specs.Writes.{written}
 use Rattle.model.specs.Tick.{withRunOut, ticked}
 use Rattle.model.specs.Image.{setupOf, encode, decode}
 use Rattle.model.specs.Restored.{poweredUp, zeroSetup}
-use Rattle.model.specs.Questions.{numberOf, lengthOf, readReply, writeReply, levelReply, currentReply, lookUpReply, powerUpReply, storeReply}
+use Rattle.model.specs.Questions.{numberOf, lengthOf, readReply, writeReply, sampleReply, lookUpReply, powerUpReply, storeReply}
 
--- ---- Calls 1: a call of a list, with all that it carries (Two lists 6)
+-- ---- Calls 1: a call of a list, with all that it carries (Two lists 6). Change 3, 2: a sample carries a level and a current
 pub data Request : Type 0 where
   read : ℕ → List ℕ → Request
   write : ℕ → List ℕ → Request
-  level : ℕ → Bool → Request
-  current : ℕ → Float → Request
+  sample : ℕ → Bool → Float → Request
   lookUp : ℕ → Float → Request
   tick : Request
 
@@ -36,7 +35,7 @@ pub data Owner : Type 0 where
   everyone : Owner
   channel : ℕ → Owner
 
--- what a call is: a tick; a wire call that lends a buffer; a wire write of a SWNo and its bytes; or a local call
+-- what a call is: a tick; a wire call that lends a buffer; a wire write of a SWNo and its bytes; or a local call. Change 3, 4: a sample is one call of its channel
 pub data Sort : Type 0 where
   aTick : Sort
   aRead : Owner → List ℕ → Sort
@@ -46,8 +45,7 @@ pub data Sort : Type 0 where
 abbrev pub sortOf : Request → Sort
 sortOf (read n lent) = aRead (channel (channelOf n)) lent
 sortOf (write n bs) = aWrite n bs
-sortOf (level k b) = aLocalCall (channel k)
-sortOf (current k x) = aLocalCall (channel k)
+sortOf (sample k b x) = aLocalCall (channel k)
 sortOf (lookUp k x) = aLocalCall everyone
 sortOf tick = aTick
 
@@ -115,7 +113,7 @@ writeLeaves (Refused r) p bs m = m
 abbrev pub writtenAs : Reply → Place → List ℕ → Module → Stepped
 writtenAs r p bs m = record { answer = wireAnswer r [] (writeLeaves r p bs m); box = writeLeaves r p bs m }
 
--- ---- Calls 2: a sample for channel k, which makes ch of it
+-- ---- Calls 2: a sample for channel k, which makes ch of it; refused, it does neither of its two (Change 3, 3)
 abbrev pub sampleLeaves : Reply → ℕ → Channel → Module → Module
 sampleLeaves (Done n) k ch m = putChannel k ch m
 sampleLeaves (Refused r) k ch m = m
@@ -135,8 +133,7 @@ lookedUpAs r k x m = record { answer = answerOf r [] false false (lookedUpBits r
 unfoldable pub step : Module → Request → Stepped
 step m (read n lent) = thenPreset (readAs (readReply n (place n) lent) (place n) lent (cleared m))
 step m (write n bs) = thenPreset (writtenAs (writeReply (writeEnable (m .shared)) n (place n) bs) (place n) bs (cleared m))
-step m (level k b) = sampledAs (levelReply k) k (takeLevel b (channelAt m k)) m
-step m (current k x) = sampledAs (currentReply k x) k (takeCurrent (m .shared) x (channelAt m k)) m
+step m (sample k b x) = sampledAs (sampleReply k x) k (takeSample (m .shared) b x (channelAt m k)) m
 step m (lookUp k x) = lookedUpAs (lookUpReply k x) k x m
 step m tick = record { answer = plainAnswer (Done 0) []; box = ticked m }
 

@@ -12,7 +12,7 @@ use Rattle.model.specs.declared.Module.{Module}
 use Rattle.model.specs.State.{config, channelAt, inFlag}
 use Rattle.model.specs.Settings.{output}
 use Rattle.model.specs.Image.{Entry, Setup, entrySize, entryFrom, dataSize, keptFrom, encode}
-use Rattle.model.specs.Calls.{Request, read, write, level, current, tick, run, powerUp, powerUpAnswer}
+use Rattle.model.specs.Calls.{Request, read, write, sample, tick, run, powerUp, powerUpAnswer}
 use Rattle.model.specs.TwoLists.{allNamed, struck, marks}
 
 -- settings of a channel: an output with this Ref_A and a MaxCurrent of 1, all else zero
@@ -46,25 +46,25 @@ image = encode setup
 
 -- WriteEnable, then channel 1 on, and its feedback input rises
 abbrev pub opening : List Request
-opening = write 0x0D (1 ∷ []) ∷ write 0x10 (0x80 ∷ []) ∷ level 2 true ∷ []
+opening = write 0x0D (1 ∷ []) ∷ write 0x10 (0x80 ∷ []) ∷ sample 2 true (ofInt binary32 (pos 0)) ∷ []
 
 -- ChConfig of channel 1 anew, with Ref_B 4, and channel 1 on again, with its FlagReg read back
 abbrev pub middle : List Request
 middle = write 0x19 (0 ∷ 0x10 ∷ 2 ∷ 4 ∷ []) ∷ write 0x10 (0x80 ∷ []) ∷ read 0x10 (0xA5 ∷ 0xA5 ∷ []) ∷ []
 
--- calls for channel 3: two that are accepted, and a read whose buffer is too short
+-- calls for channel 3: two that are accepted, a write and a sample, and a read whose buffer is too short
 abbrev pub strangersFirst : List Request
-strangersFirst = write 0x30 (0x80 ∷ []) ∷ level 3 true ∷ read 0x3F [] ∷ []
+strangersFirst = write 0x30 (0x80 ∷ []) ∷ sample 3 true (ofInt binary32 (pos 1)) ∷ read 0x3F [] ∷ []
 
--- other calls for it: a write of two bytes where one is due, and a current that is taken
+-- other calls for it: a write of two bytes where one is due, and a sample that trips
 abbrev pub strangersSecond : List Request
-strangersSecond = write 0x30 (0 ∷ 0 ∷ []) ∷ current 3 (ofInt binary32 (pos 1)) ∷ []
+strangersSecond = write 0x30 (0 ∷ 0 ∷ []) ∷ sample 3 true (ofInt binary32 (pos 3)) ∷ []
 
 unfoldable pub first : List Request
 first = opening ++ (tick ∷ (strangersFirst ++ (middle ++ (tick ∷ tick ∷ []))))
 
 unfoldable pub second : List Request
-second = opening ++ (tick ∷ (middle ++ (strangersSecond ++ (tick ∷ level 3 false ∷ tick ∷ []))))
+second = opening ++ (tick ∷ (middle ++ (strangersSecond ++ (tick ∷ sample 3 false (ofInt binary32 (pos 0)) ∷ tick ∷ []))))
 
 abbrev pub start : Module
 start = powerUp image

@@ -1,5 +1,5 @@
--- Document 01, Questions 1 to 15, and document 02, Change 1, 14: each question, the first whose answer is no, and the number and values of every answer.
--- Definitions only.
+-- Document 01, Questions 1 to 15, and document 02, Change 1, 14, and Change 3, 3: each question, the first whose answer is no, and the number and values of
+-- every answer. Definitions only.
 use mathlib.Core.Bool.{Bool, true, false, not, cond, _||_}
 use mathlib.Core.List.{List, [], _∷_}
 use Prim.Native.Nat.{ℕ}
@@ -118,24 +118,18 @@ writeQuestions enable n p bs =
 unfoldable pub writeReply : Bool → ℕ → Place → List ℕ → Reply
 writeReply enable n p bs = asked (writeQuestions enable n p bs) (Done 0)
 
--- ---- samples
+-- ---- samples. Change 3, 3: 8 of the channel, then 9 of the current
 abbrev pub question8 : ℕ → Bool
 question8 k = isDigital k
 
 abbrev pub question9 : Float → Bool
 question9 x = finite x
 
-abbrev pub levelQuestions : ℕ → List Question
-levelQuestions k = (question8 k else NoChannel) ∷ []
+abbrev pub sampleQuestions : ℕ → Float → List Question
+sampleQuestions k x = (question8 k else NoChannel) ∷ (question9 x else NotFinite) ∷ []
 
-unfoldable pub levelReply : ℕ → Reply
-levelReply k = asked (levelQuestions k) (Done 0)
-
-abbrev pub currentQuestions : ℕ → Float → List Question
-currentQuestions k x = (question8 k else NoChannel) ∷ (question9 x else NotFinite) ∷ []
-
-unfoldable pub currentReply : ℕ → Float → Reply
-currentReply k x = asked (currentQuestions k x) (Done 0)
+unfoldable pub sampleReply : ℕ → Float → Reply
+sampleReply k x = asked (sampleQuestions k x) (Done 0)
 
 -- ---- lookups. Change 1, 14: 15 of the table's number, then 7 of X
 abbrev pub question15 : ℕ → Bool

@@ -18,7 +18,7 @@ use Rattle.model.specs.Reads.{flagReg}
 use Rattle.model.specs.Questions.{question7, question8}
 use Rattle.model.specs.Calls.{read, write, step}
 use Rattle.model.specs.Listed.{numbers}
-use Rattle.model.specs.Worked.{one, two, four, amperes, boxOf, entry}
+use Rattle.model.specs.Worked.{one, two, four, sampled, boxOf, entry}
 
 -- every byte, and a list with x at each of these places
 abbrev pub bytes : List ℕ
@@ -64,7 +64,7 @@ abbrev pub afterWord : ℕ → ℕ → Module
 afterWord n i = step outputs (write n (two (2 ^ i))) .box
 
 abbrev pub overloadOn : ℕ → Module
-overloadOn k = step outputs (amperes k 0x4040_0000) .box
+overloadOn k = step outputs (sampled k false 0x4040_0000) .box
 
 -- what a read gives
 abbrev pub given : ℕ → ℕ → Module → List ℕ

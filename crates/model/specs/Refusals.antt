@@ -17,7 +17,7 @@ use Rattle.model.specs.Image.{sizeRight, countsRight, sumRight, valuesAl
 use Rattle.model.specs.Restored.{poweredUp, zeroSetup}
 use Rattle.model.specs.Questions.{question1, question2, question3, question4, question5, question6, question7, question8, question9, question14}
 use Rattle.model.specs.Questions.{question15}
-use Rattle.model.specs.Calls.{Request, read, write, level, current, lookUp, Sort, aTick, aRead, aWrite, aLocalCall, sortOf, Stepped, step}
+use Rattle.model.specs.Calls.{Request, read, write, sample, lookUp, Sort, aTick, aRead, aWrite, aLocalCall, sortOf, Stepped, step}
 use Rattle.model.specs.Calls.{cleared, watchdogPreset, powerUp, powerUpAnswer, storeAnswer}
 use Rattle.model.specs.Images.{zeroData}
 
@@ -61,8 +61,8 @@ pub record Decided : Type 0 where
       ((1 asks question1 n) ∷ (2 asks question2 (place n)) ∷ (3 asks question3 (place n)) ∷ (4 asks question4 (place n) bs)
       ∷ (6 asks question6 (writeEnable (m .shared)) (place n)) ∷ (7 asks question7 (place n) bs) ∷ [])
       (step m (write n bs) .answer .number)
-  pub levels : (m : Module) (k : ℕ) (b : Bool) → Decides ((8 asks question8 k) ∷ []) (step m (level k b) .answer .number)
-  pub currents : (m : Module) (k : ℕ) (x : Float) → Decides ((8 asks question8 k) ∷ (9 asks question9 x) ∷ []) (step m (current k x) .answer .number)
+  -- Change 3, 3
+  pub samples : (m : Module) (k : ℕ) (b : Bool) (x : Float) → Decides ((8 asks question8 k) ∷ (9 asks question9 x) ∷ []) (step m (sample k b x) .answer .number)
   -- Change 1, 14
   pub look-ups : (m : Module) (k : ℕ) (x : Float) → Decides ((15 asks question15 k) ∷ (7 asks finite x) ∷ []) (step m (lookUp k x) .answer .number)
   pub power-ups : (img : List ℕ) →
@@ -119,9 +119,9 @@ pub record InOrder : Type 0 where
   pub number5 : (m : Module) → reads m 0x1F (0 ∷ 0 ∷ 0 ∷ []) ≡ 5
   pub number6 : writes (poweredUp zeroSetup) 0x19 (0 ∷ 0x77 ∷ 0 ∷ 0 ∷ []) ≡ 6
   pub number7 : writes (enabled (poweredUp zeroSetup)) 0x19 (0 ∷ 0x77 ∷ 0 ∷ 0 ∷ []) ≡ 7
-  pub number8 : (m : Module) → step m (level 17 true) .answer .number ≡ 8
-  pub number8-first : (m : Module) → step m (current 0 (ofBits binary32 0x7F80_0000)) .answer .number ≡ 8
-  pub number9 : (m : Module) → step m (current 16 (ofBits binary32 0x7F80_0000)) .answer .number ≡ 9
+  pub number8 : (m : Module) → step m (sample 17 true (ofBits binary32 0)) .answer .number ≡ 8
+  pub number8-first : (m : Module) → step m (sample 0 true (ofBits binary32 0x7F80_0000)) .answer .number ≡ 8
+  pub number9 : (m : Module) → step m (sample 16 true (ofBits binary32 0x7F80_0000)) .answer .number ≡ 9
   pub number10 : powerUpAnswer (replicate 885 0) .number ≡ 10
   pub number11 : powerUpAnswer (set (imageWith 0x10) 0 2) .number ≡ 11
   pub number12 : powerUpAnswer (set (imageWith 0x10) 2 0x11) .number ≡ 12

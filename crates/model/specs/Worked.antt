@@ -8,6 +8,7 @@ pub mod Saves
 pub mod Image
 pub mod Levels
 pub mod Runs
+pub mod Samples
 use mathlib.Core.Path.{_≡_}
 use mathlib.Core.Bool.{Bool, true, false}
 use mathlib.Core.List.{List, [], _∷_, _++_, map}
@@ -20,7 +21,7 @@ use Rattle.model.specs.declared.Config.{Config}
 use Rattle.model.specs.declared.Module.{Module}
 use Rattle.model.specs.Image.{Entry}
 use Rattle.model.specs.Restored.{poweredUp}
-use Rattle.model.specs.Calls.{Request, read, write, current, tick, Answer, step}
+use Rattle.model.specs.Calls.{Request, read, write, sample, tick, Answer, step}
 use Rattle.model.specs.Images.{zeroData}
 
 -- ---- bytes: of numbers of one byte, two and four, the high byte first
@@ -86,8 +87,9 @@ takes x = record { call = x; answer = answering 0 0 [] calm } ∷ []
 abbrev pub refuses : ℕ → Request → List Case
 refuses why x = record { call = x; answer = answering why 0 [] calm } ∷ []
 
-abbrev pub amperes : ℕ → ℕ → Request
-amperes k word = current k (ofBits binary32 word)
+-- a sample of channel k: its level, and the bits of its current
+abbrev pub sampled : ℕ → Bool → ℕ → Request
+sampled k b word = sample k b (ofBits binary32 word)
 
 abbrev pub ticks : ℕ → List Case
 ticks zero = []

@@ -5,7 +5,7 @@ use mathlib.Core.List.{List, []}
 use Prim.Native.Nat.{ℕ}
 use lib.ListN.{length, take}
 use Rattle.model.specs.declared.Call.{Call}
-use Rattle.model.specs.declared.Call.the-variants.{Read, Write, Level, Current, LookUp, Tick}
+use Rattle.model.specs.declared.Call.the-variants.{Read, Write, Sample, LookUp, Tick}
 use Rattle.model.specs.declared.Module.{Module}
 use Rattle.model.specs.declared.Reply.{Reply}
 use Rattle.model.specs.declared.Reply.the-variants.{Done}
@@ -14,7 +14,7 @@ use Rattle.model.specs.declared.Shared.{Shared}
 use Rattle.model.specs.State.{channelAt}
 use Rattle.model.specs.Settings.{isDigital, output}
 use Rattle.model.specs.Questions.{numberOf}
-use Rattle.model.specs.Calls.{Request, read, write, level, current, lookUp, tick, Stepped, answerOf, step, powerUp, powerUpAnswer, storeAnswer}
+use Rattle.model.specs.Calls.{Request, read, write, sample, lookUp, tick, Stepped, answerOf, step, powerUp, powerUpAnswer, storeAnswer}
 use Rattle.model.specs.Image.{setupOf, encode, imageSize}
 use Rattle.model.specs.Images.{Reached, PowersUpTo}
 use Rattle.model.specs.TwoLists.{LearnsNothing}
@@ -62,8 +62,7 @@ outputAt m k = isDigital k && output (channelAt m k)
 abbrev pub requestOf : Call → List ℕ → List ℕ → Request
 requestOf (Read n) written lent = read n lent
 requestOf (Write n) written lent = write n written
-requestOf (Level k b) written lent = level k b
-requestOf (Current k x) written lent = current k x
+requestOf (Sample k b x) written lent = sample k b x
 requestOf (LookUp k x) written lent = lookUp k x
 requestOf Tick written lent = tick
 
@@ -71,8 +70,7 @@ requestOf Tick written lent = tick
 abbrev pub answerBuffer : Call → List ℕ → List ℕ
 answerBuffer (Read n) lent = lent
 answerBuffer (Write n) lent = []
-answerBuffer (Level k b) lent = []
-answerBuffer (Current k x) lent = []
+answerBuffer (Sample k b x) lent = []
 answerBuffer (LookUp k x) lent = []
 answerBuffer Tick lent = []
 
@@ -80,8 +78,7 @@ answerBuffer Tick lent = []
 abbrev pub lentAfter : Call → Module → List ℕ → List ℕ
 lentAfter (Read n) m lent = step m (read n lent) .answer .buffer
 lentAfter (Write n) m lent = lent
-lentAfter (Level k b) m lent = lent
-lentAfter (Current k x) m lent = lent
+lentAfter (Sample k b x) m lent = lent
 lentAfter (LookUp k x) m lent = lent
 lentAfter Tick m lent = lent
 

@@ -1,6 +1,6 @@
 -- What the functions answer that are given parts of a box and give parts back, for every box that has these parts, beside the model's `step`. Definitions only.
 use mathlib.Core.Path.{_≡_}
-use mathlib.Core.Bool.{false}
+use mathlib.Core.Bool.{Bool, false}
 use lib.Ieee.{Float}
 use mathlib.Core.List.{List, []}
 use Prim.Native.Nat.{ℕ, _/_, _≤_}
@@ -11,7 +11,7 @@ use Rattle.model.specs.declared.Module.{Module}
 use Rattle.model.specs.declared.Service.{Service}
 use Rattle.model.specs.declared.Shared.{Shared}
 use Rattle.model.specs.State.{dataChannel, nothing, withChannels}
-use Rattle.model.specs.Calls.{Request, read, write, lookUp, Stepped, answerOf, wireAnswer, step}
+use Rattle.model.specs.Calls.{read, write, sample, lookUp, Stepped, answerOf, wireAnswer, step}
 use Rattle.errors.specs.declared.words.Words.{Words}
 use Rattle.errors.specs.Words.{wordsOf}
 use Rattle.registers.specs.Places.{slotOf}
@@ -59,8 +59,8 @@ WriteBy s v ch n bs r =
 abbrev pub LookedUpBy : DataChannel → ℕ → Float → LookedUp → Type 0
 LookedUpBy d k x r = (m : Module) → dataChannel m ≡ d → lookUpOf r m ≡ step m (lookUp k x)
 
--- a sample: its channel put back at place i. It looks at no service record
-abbrev pub SampleBy : Request → Shared → Channel → ℕ → Taken → Type 0
-SampleBy x s ch i r =
-    (m : Module) → m .shared ≡ s → getD (m .channels) i nothing ≡ ch →
-    record { answer = answerOf (r .reply) [] false false 0; box = withChannels (set (m .channels) i (r .after)) m } ≡ step m x
+-- a sample for channel k: its channel put back. It looks at no service record
+abbrev pub SampleBy : ℕ → Bool → Float → Shared → Channel → Taken → Type 0
+SampleBy k b x s ch r =
+    (m : Module) → m .shared ≡ s → getD (m .channels) (slotOf k) nothing ≡ ch →
+    record { answer = answerOf (r .reply) [] false false 0; box = withChannels (set (m .channels) (slotOf k) (r .after)) m } ≡ step m (sample k b x)

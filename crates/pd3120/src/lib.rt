@@ -5,7 +5,7 @@ ghost use mathlib.Core.List.{[]};
 ghost use Rattle.model.specs.Errors.{dataError, generalError};
 ghost use Rattle.model.specs.Registers.{place};
 ghost use Rattle.model.specs.Questions.{readReply};
-ghost use Rattle.model.specs.Calls.{read, write, level, current, lookUp, tick, step, cleared, watchdogPreset};
+ghost use Rattle.model.specs.Calls.{read, write, sample, lookUp, tick, step, cleared, watchdogPreset};
 ghost use Rattle.pd3120.specs.Answers.{stepOf, sampleOf, lookUpOf, tickOf, outputAt, requestOf, answerBuffer, lentAfter, RecordBy, SharedBy, PoweredUp};
 ghost use Rattle.pd3120.specs.Answers.{StoredBy, plainOf};
 ghost use Rattle.pd3120.specs.Parts.{ReadBy, WriteBy};
@@ -215,30 +215,14 @@ pub fn write(m: Module, swno: u16, bytes: &[u8]) -> Answered
     }
 }
 
-pub fn level(m: Module, channel: u8, on: bool) -> Sampled
-    ensures { λ r. ⌜ sampleOf r ≡ step m (level channel on) ⌝ }
+// The level first, then the current.
+pub fn sample(m: Module, channel: u8, level: bool, amperes: f32) -> Sampled
+    ensures { λ r. ⌜ sampleOf r ≡ step m (sample channel level amperes) ⌝ }
 {
     let at = samples::slot(channel);
     let ch = m.channels[at];
     let shared = m.shared;
-    let taken = samples::take_level(shared, ch, channel, on);
-    let left = taken.after;
-    let reply = taken.reply;
-    let mut next = m;
-    next.channels[at] = left;
-    Sampled {
-        after: next,
-        reply: reply,
-    }
-}
-
-pub fn current(m: Module, channel: u8, amperes: f32) -> Sampled
-    ensures { λ r. ⌜ sampleOf r ≡ step m (current channel amperes) ⌝ }
-{
-    let at = samples::slot(channel);
-    let ch = m.channels[at];
-    let shared = m.shared;
-    let taken = samples::take_current(shared, ch, channel, amperes);
+    let taken = samples::take(shared, ch, channel, level, amperes);
     let left = taken.after;
     let reply = taken.reply;
     let mut next = m;
@@ -308,7 +292,7 @@ fn looked_up(m: Module, table: u8, x: f32) -> Answered
     }
 }
 
-// Any of the six calls: a write takes its bytes from written, a read lends lent.
+// Any of the five calls: a write takes its bytes from written, a read lends lent.
 pub fn call(m: Module, c: Call, written: &[u8], lent: &mut [u8]) -> Answered
     ensures answer { λ r. ⌜ stepOf r (answerBuffer c (now (lent .exit))) ≡ step m (requestOf c (now (written .entry)) (now (lent .entry))) ⌝ }
     ensures buffer { λ r. ⌜ now (lent .exit) ≡ lentAfter c m (now (lent .entry)) ⌝ }
@@ -316,8 +300,7 @@ pub fn call(m: Module, c: Call, written: &[u8], lent: &mut [u8]) -> Answered
     match c {
         Call::Read(swno) => read(m, swno, lent),
         Call::Write(swno) => write(m, swno, written),
-        Call::Level(channel, on) => plain(level(m, channel, on)),
-        Call::Current(channel, amperes) => plain(current(m, channel, amperes)),
+        Call::Sample(channel, level, amperes) => plain(sample(m, channel, level, amperes)),
         Call::LookUp(table, x) => looked_up(m, table, x),
         Call::Tick => plain(Sampled {
             after: tick(m),

@@ -2,7 +2,6 @@
 // channel back itself.
 ghost use mathlib.Core.Path.{_≡_};
 ghost use Prim.Native.Nat.{_<_};
-ghost use Rattle.model.specs.Calls.{level, current};
 ghost use Rattle.registers.specs.Places.{slotOf};
 ghost use Rattle.pd3120.specs.Parts.{SampleBy};
 use model::Channel;
@@ -23,30 +22,14 @@ pub fn slot(channel: u8) -> usize
     registers::slot(channel as usize)
 }
 
-// A level does not look at s; both samples have one shape.
-pub fn take_level(s: Shared, ch: Channel, channel: u8, on: bool) -> Taken
-    ensures { λ r. ⌜ SampleBy (level channel on) s ch (slotOf channel) r ⌝ }
+// s is the box's shared record, ch the channel at the place that `slot` gives.
+pub fn take(s: Shared, ch: Channel, channel: u8, level: bool, amperes: f32) -> Taken
+    ensures { λ r. ⌜ SampleBy channel level amperes s ch r ⌝ }
 {
-    let reply = questions::level_reply(channel);
+    let reply = questions::sample_reply(channel, amperes);
     match reply {
         Reply::Done(_) => Taken {
-            after: channel::take_level(on, ch),
-            reply: reply,
-        },
-        Reply::Refused(_) => Taken {
-            after: ch,
-            reply: reply,
-        },
-    }
-}
-
-pub fn take_current(s: Shared, ch: Channel, channel: u8, amperes: f32) -> Taken
-    ensures { λ r. ⌜ SampleBy (current channel amperes) s ch (slotOf channel) r ⌝ }
-{
-    let reply = questions::current_reply(channel, amperes);
-    match reply {
-        Reply::Done(_) => Taken {
-            after: channel::take_current(s, amperes, ch),
+            after: channel::take_sample(s, level, amperes, ch),
             reply: reply,
         },
         Reply::Refused(_) => Taken {

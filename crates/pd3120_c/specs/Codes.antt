@@ -14,7 +14,7 @@ use Rattle.model.specs.declared.Shared.{Shared}
 use Rattle.model.specs.State.{dataChannel, moduleOf, nothing, withChannels}
 use Rattle.model.specs.Errors.{dataError, generalError}
 use Rattle.model.specs.Questions.{numberOf, lengthOf}
-use Rattle.model.specs.Calls.{Request, read, write, lookUp, tick, Answer, Stepped, step, powerUp, powerUpAnswer, storeAnswer}
+use Rattle.model.specs.Calls.{read, write, sample, lookUp, tick, Answer, Stepped, step, powerUp, powerUpAnswer, storeAnswer}
 use Rattle.model.specs.Image.{setupOf, encode, imageSize}
 use Rattle.model.specs.Images.{Reached, PowersUpTo}
 use Rattle.model.specs.TwoLists.{LearnsNothing}
@@ -82,10 +82,11 @@ pub record Stored (m : Module) (lent : List ℕ) (code : ℕ) (lent′ : List �
   pub powers-up : Reached m → storeAnswer m lent .number ≡ 0 → PowersUpTo m (take imageSize lent′)
 
 -- ---- what the calls beneath give, for every module that has the parts that they are given
--- a sample's channel put back at place i
-abbrev pub SampleLeft : Request → Shared → Channel → ℕ → ChannelDone → Type 0
-SampleLeft x s ch i d = (m : Module) → m .shared ≡ s → getD (m .channels) i nothing ≡ ch → Left (step m x) (withChannels (set (m .channels) i (d .after)) m)
-    (d .code)
+-- the channel k of a sample put back
+abbrev pub SampleLeft : ℕ → Bool → Float → Shared → Channel → ChannelDone → Type 0
+SampleLeft k b x s ch d =
+    (m : Module) → m .shared ≡ s → getD (m .channels) (slotOf k) nothing ≡ ch →
+    Left (step m (sample k b x)) (withChannels (set (m .channels) (slotOf k) (d .after)) m) (d .code)
 
 -- the two parts of the module that a read may change, put back
 abbrev pub ReadLeft : Shared → Service → Channel → DataChannel → Words → ℕ → List ℕ → ReadDone → List ℕ → Type 0

@@ -2,9 +2,7 @@
 // need. The answers are packed.
 ghost use mathlib.Core.Path.{_≡_};
 ghost use Rattle.model.specs.Errors.{dataError, generalError};
-ghost use Rattle.model.specs.Calls.{level, current};
 ghost use Rattle.errors.specs.Words.{wordsOf};
-ghost use Rattle.registers.specs.Places.{slotOf};
 ghost use Rattle.writes.specs.Begun.{dataBy};
 ghost use Rattle.pd3120_c.specs.Codes.{packed, SampleLeft, ReadLeft, WriteLeft, eachLeft, LookedUpLeft, PoweredUp, Stored};
 use crate::ChannelDone;
@@ -116,22 +114,10 @@ pub fn finish_write(m: Module, number: u8) -> u32
     codes::code(number, 0, bits.data_error, bits.general_error)
 }
 
-pub fn level(s: Shared, ch: Channel, channel: u8, on: bool) -> ChannelDone
-    ensures { λ r. ⌜ SampleLeft (level channel on) s ch (slotOf channel) r ⌝ }
+pub fn sample(s: Shared, ch: Channel, channel: u8, level: bool, amperes: f32) -> ChannelDone
+    ensures { λ r. ⌜ SampleLeft channel level amperes s ch r ⌝ }
 {
-    let taken = samples::take_level(s, ch, channel, on);
-    let after = taken.after;
-    let reply = taken.reply;
-    ChannelDone {
-        after: after,
-        code: codes::pack(reply, false, false),
-    }
-}
-
-pub fn current(s: Shared, ch: Channel, channel: u8, amperes: f32) -> ChannelDone
-    ensures { λ r. ⌜ SampleLeft (current channel amperes) s ch (slotOf channel) r ⌝ }
-{
-    let taken = samples::take_current(s, ch, channel, amperes);
+    let taken = samples::take(s, ch, channel, level, amperes);
     let after = taken.after;
     let reply = taken.reply;
     ChannelDone {

@@ -2,7 +2,7 @@
 // wire call's bytes stand in the caller's buffer, and its answer is one number (specs/Codes.antt).
 // No function asks anything of its caller beyond what a reference itself carries.
 ghost use mathlib.Core.Path.{_≡_};
-ghost use Rattle.model.specs.Calls.{read, write, level, current, lookUp, step};
+ghost use Rattle.model.specs.Calls.{read, write, sample, lookUp, step};
 ghost use Rattle.pd3120.specs.Answers.{outputAt};
 ghost use Rattle.pd3120_c.specs.Codes.{Left, LeftLent, Ticked, PoweredUp, Stored, lookUpCode};
 
@@ -108,22 +108,13 @@ pub extern "C" fn pd3120_write(m: &mut Module, swno: u16, bytes: &[u8]) -> u32
     calls::finish_write(*m, begun.number)
 }
 
+// The level first, then the current.
 #[no_mangle]
-pub extern "C" fn pd3120_level(m: &mut Module, channel: u8, on: bool) -> u32
-    ensures { λ r. ⌜ Left (step (now (m .entry)) (level channel on)) (now (m .exit)) r ⌝ }
+pub extern "C" fn pd3120_sample(m: &mut Module, channel: u8, level: bool, amperes: f32) -> u32
+    ensures { λ r. ⌜ Left (step (now (m .entry)) (sample channel level amperes)) (now (m .exit)) r ⌝ }
 {
     let at = samples::slot(channel);
-    let done = calls::level(m.shared, m.channels[at], channel, on);
-    m.channels[at] = done.after;
-    done.code
-}
-
-#[no_mangle]
-pub extern "C" fn pd3120_current(m: &mut Module, channel: u8, amperes: f32) -> u32
-    ensures { λ r. ⌜ Left (step (now (m .entry)) (current channel amperes)) (now (m .exit)) r ⌝ }
-{
-    let at = samples::slot(channel);
-    let done = calls::current(m.shared, m.channels[at], channel, amperes);
+    let done = calls::sample(m.shared, m.channels[at], channel, level, amperes);
     m.channels[at] = done.after;
     done.code
 }

@@ -153,8 +153,7 @@ pub(crate) fn put_answer(
         Line::Store => put_store(out, at, reply, bytes),
         Line::Read(_) => put_read(out, at, reply, data_error, general_error, bytes),
         Line::Write(_) => put_write(out, at, reply, data_error, general_error),
-        Line::Level(_, _) => put_plain(out, at, b"level", reply),
-        Line::Current(_, _) => put_plain(out, at, b"current", reply),
+        Line::Sample(_, _, _) => put_plain(out, at, b"sample", reply),
         Line::LookUp(_, _) => put_look_up(out, at, reply, real_bits),
         Line::Tick(_) => put_plain(out, at, b"tick", reply),
     }

@@ -56,11 +56,10 @@ pub(crate) fn perform(m: Module, line: Line, bytes: &mut [u8]) -> Answered {
         Line::Store => store(m, bytes),
         Line::Read(swno) => make(m, Call::Read(swno), 1, b"", bytes),
         Line::Write(swno) => write(m, swno, bytes),
-        Line::Level(channel, on) => make(m, Call::Level(channel, on), 1, b"", bytes),
-        Line::Current(channel, real) => {
+        Line::Sample(channel, level, real) => {
             make(
                 m,
-                Call::Current(channel, reals::of_bits(real)),
+                Call::Sample(channel, level, reals::of_bits(real)),
                 1,
                 b"",
                 bytes,

@@ -2,7 +2,7 @@
 // question whose answer is no, or what is done.
 ghost use mathlib.Core.Path.{_≡_};
 ghost use Rattle.model.specs.Settings.{isDigital};
-ghost use Rattle.model.specs.Questions.{question1, question2, question3, question4, question6, readReply, writeReply, levelReply, currentReply, lookUpReply};
+ghost use Rattle.model.specs.Questions.{question1, question2, question3, question4, question6, readReply, writeReply, sampleReply, lookUpReply};
 ghost use Rattle.registers.specs.Places.{placed};
 
 mod values;
@@ -104,23 +104,16 @@ fn is_digital(k: u8) -> bool
     (1 <= k) & (k <= 16)
 }
 
-pub fn level_reply(k: u8) -> Reply
-    ensures { λ r. ⌜ r ≡ levelReply k ⌝ }
+// 8 of the channel, then 9 of the current.
+pub fn sample_reply(k: u8, x: f32) -> Reply
+    ensures { λ r. ⌜ r ≡ sampleReply k x ⌝ }
 {
-    if !is_digital(k) {
+    let digital = is_digital(k);
+    let finite = reals::is_finite(x);
+    if !digital {
         return Reply::Refused(Refusal::NoChannel);
     }
-    Reply::Done(0)
-}
-
-// Questions 8 and 9.
-pub fn current_reply(k: u8, x: f32) -> Reply
-    ensures { λ r. ⌜ r ≡ currentReply k x ⌝ }
-{
-    if !is_digital(k) {
-        return Reply::Refused(Refusal::NoChannel);
-    }
-    if !reals::is_finite(x) {
+    if !finite {
         return Reply::Refused(Refusal::NotFinite);
     }
     Reply::Done(0)

@@ -19,8 +19,7 @@ pub enum Line {
     Store,
     Read(u16),
     Write(u16),
-    Level(u8, bool),
-    Current(u8, u32),
+    Sample(u8, bool, u32),
     LookUp(u8, u32),
     Tick(u32),
 }
@@ -126,10 +125,10 @@ pub fn parse_wire(
     with_bytes(Line::Read(n), second, space)
 }
 
-pub fn parse_level(count: usize, first: &[u8], second: &[u8]) -> Parsed
+pub fn parse_sample(count: usize, first: &[u8], second: &[u8], third: &[u8]) -> Parsed
     ensures { λ r. ⌜ r .n ≤ 0 ⌝ }
 {
-    if count != 2 {
+    if count != 3 {
         return wrong(Wrong::WordCount);
     }
     let channel = parameters::decimal(first, 255);
@@ -137,38 +136,36 @@ pub fn parse_level(count: usize, first: &[u8], second: &[u8]) -> Parsed
     if !channel.right {
         return wrong(channel_why);
     }
-    let k = channel.value as u8;
-    if words::same(second, b"0") {
-        return plain(Line::Level(k, false));
+    let on = words::same(second, b"1");
+    let off = words::same(second, b"0");
+    if !on & !off {
+        return wrong(Wrong::NotBit);
     }
-    if words::same(second, b"1") {
-        return plain(Line::Level(k, true));
+    let real = parameters::real(third);
+    let real_why = real.why;
+    if !real.right {
+        return wrong(real_why);
     }
-    wrong(Wrong::NotBit)
+    plain(Line::Sample(channel.value as u8, on, real.value))
 }
 
-// A number and a Real, for a current or for a lookup.
-pub fn parse_real(looks_up: bool, count: usize, first: &[u8], second: &[u8]) -> Parsed
+pub fn parse_look_up(count: usize, first: &[u8], second: &[u8]) -> Parsed
     ensures { λ r. ⌜ r .n ≤ 0 ⌝ }
 {
     if count != 2 {
         return wrong(Wrong::WordCount);
     }
-    let number = parameters::decimal(first, 255);
-    let number_why = number.why;
-    if !number.right {
-        return wrong(number_why);
+    let table = parameters::decimal(first, 255);
+    let table_why = table.why;
+    if !table.right {
+        return wrong(table_why);
     }
-    let k = number.value as u8;
     let real = parameters::real(second);
     let real_why = real.why;
     if !real.right {
         return wrong(real_why);
     }
-    if looks_up {
-        return plain(Line::LookUp(k, real.value));
-    }
-    plain(Line::Current(k, real.value))
+    plain(Line::LookUp(table.value as u8, real.value))
 }
 
 pub fn parse_tick(count: usize, word: &[u8]) -> Parsed

@@ -16,8 +16,7 @@ enum Name {
     Store,
     Read,
     Write,
-    Level,
-    Current,
+    Sample,
     LookUp,
     Tick,
     Unknown,
@@ -36,11 +35,8 @@ fn name_of(word: &[u8]) -> Name {
     if words::same(word, b"write") {
         return Name::Write;
     }
-    if words::same(word, b"level") {
-        return Name::Level;
-    }
-    if words::same(word, b"current") {
-        return Name::Current;
+    if words::same(word, b"sample") {
+        return Name::Sample;
     }
     if words::same(word, b"lookup") {
         return Name::LookUp;
@@ -51,7 +47,14 @@ fn name_of(word: &[u8]) -> Name {
     Name::Unknown
 }
 
-fn parse_call(name: Name, count: usize, first: &[u8], second: &[u8], space: &mut [u8]) -> Parsed
+fn parse_call(
+    name: Name,
+    count: usize,
+    first: &[u8],
+    second: &[u8],
+    third: &[u8],
+    space: &mut [u8],
+) -> Parsed
     ensures { λ r. ⌜ r .n ≤ length (now (space .exit)) ⌝ }
 {
     match name {
@@ -59,16 +62,18 @@ fn parse_call(name: Name, count: usize, first: &[u8], second: &[u8], space: &mut
         Name::Store => calls::parse_store(count, first, space),
         Name::Read => calls::parse_wire(false, count, first, second, space),
         Name::Write => calls::parse_wire(true, count, first, second, space),
-        Name::Level => calls::parse_level(count, first, second),
-        Name::Current => calls::parse_real(false, count, first, second),
-        Name::LookUp => calls::parse_real(true, count, first, second),
+        Name::Sample => calls::parse_sample(count, first, second, third),
+        Name::LookUp => calls::parse_look_up(count, first, second),
         Name::Tick => calls::parse_tick(count, first),
         Name::Unknown => calls::wrong(Wrong::UnknownCall),
     }
 }
 
-// How many words there are after the call's name; 3 stands for any more than 2.
-fn count_words(first: bool, second: bool, third: bool) -> usize {
+// How many words there are after the call's name; 4 stands for any more than 3.
+fn count_words(first: bool, second: bool, third: bool, fourth: bool) -> usize {
+    if fourth {
+        return 4;
+    }
     if third {
         return 3;
     }
@@ -87,12 +92,20 @@ fn parse_rest(name: Name, rest: &[u8], space: &mut [u8]) -> Parsed
     let second = words::skip(rest, first_end, true);
     let second_end = words::skip(rest, second, false);
     let third = words::skip(rest, second_end, true);
-    let count = count_words(first < rest.len(), second < rest.len(), third < rest.len());
+    let third_end = words::skip(rest, third, false);
+    let fourth = words::skip(rest, third_end, true);
+    let count = count_words(
+        first < rest.len(),
+        second < rest.len(),
+        third < rest.len(),
+        fourth < rest.len(),
+    );
     parse_call(
         name,
         count,
         &rest[first..first_end],
         &rest[second..second_end],
+        &rest[third..third_end],
         space,
     )
 }

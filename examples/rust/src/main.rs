@@ -9,8 +9,8 @@ fn main() -> Result<(), Error> {
         Pd3120::default()
     });
     for _ in 0..3 {
-        module.level(4, true)?;
-        module.level(4, false)?;
+        module.sample(4, true, 0.0)?;
+        module.sample(4, false, 0.0)?;
     }
     let mut counter = [0; 4];
     module.read(0x42, &mut counter)?;

@@ -112,26 +112,18 @@ impl ChannelBox {
     }
 }
 
-/// Samples.
+/// Samples. Change 3: "Our terminal hardware delivers level and current
+/// together. The two calls become one that sets the level first and then the
+/// current."
 impl ChannelBox {
-    /// A level for a channel.
-    pub fn level(&mut self, channel: u8, on: bool) -> u8 {
-        match self.sampled(channel) {
-            Some(channel) => {
-                channel.level(on);
-                0
-            }
-            None => 8,
-        }
-    }
-
-    /// A current in amperes for a channel.
-    pub fn current(&mut self, channel: u8, amperes: Real) -> u8 {
+    /// A level and a current in amperes for a channel. Change 3: "Its questions
+    /// are 8, then 9, and a refused sample does neither."
+    pub fn sample(&mut self, channel: u8, level: bool, amperes: Real) -> u8 {
         match self.sampled(channel) {
             None => 8,
             Some(_) if !reals::is_finite(amperes) => 9,
             Some(channel) => {
-                channel.current(amperes);
+                channel.sample(level, amperes);
                 0
             }
         }

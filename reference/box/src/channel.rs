@@ -157,8 +157,14 @@ impl Channel {
         self.in_flag = on;
     }
 
+    /// Change 3: "sets the level first and then the current".
+    pub fn sample(&mut self, level: bool, amperes: Real) {
+        self.set_level(level);
+        self.set_current(amperes);
+    }
+
     /// "A level sets InFlag unless simulated."
-    pub fn level(&mut self, on: bool) {
+    fn set_level(&mut self, on: bool) {
         if !self.kept.config.simulates_input() {
             self.set_in_flag(on);
         }
@@ -171,8 +177,9 @@ impl Channel {
         }
     }
 
-    /// "A current is stored; above 2 it trips".
-    pub fn current(&mut self, amperes: Real) {
+    /// "A current is stored; above 2 it trips". "Writing OutCurrent acts as a
+    /// current": as a current alone, after Change 3 too.
+    pub(crate) fn set_current(&mut self, amperes: Real) {
         self.out_current = amperes;
         if self.is_above_two() {
             self.trip();

@@ -81,15 +81,15 @@ mod tests {
 
     #[test]
     fn each_call_answers_its_line() {
-        let script = "power -\nread 0 a5A5a5\nwrite d 01\nlevel 1 1\n\
-                      current 1 3f800000\ntick\ntick 3\nstore 2\nread 12 00000000\n\
+        let script = "power -\nread 0 a5A5a5\nwrite d 01\nsample 1 1 3f800000\n\
+                      sample 17 0 7f800000\ntick\ntick 3\nstore 2\nread 12 00000000\n\
                       lookup 2 3F800000\n";
         let expected = [
             "power 10",
             "read 0 2 0 1 013fa5",
             "write 0 0 0 1",
-            "level 0",
-            "current 0",
+            "sample 0",
+            "sample 8",
             "tick 0",
             "tick 0",
             "store 14 0 a5a5",
@@ -141,6 +141,13 @@ mod tests {
         );
     }
 
+    /// A wrong line gets its sentence, and the line after it is played.
+    fn assert_wrong(line: &str, why: &str) {
+        let script = format!("\n{line}\ntick\n");
+        let expected = [format!("error 2: {why}"), "tick 0".to_string()];
+        assert_eq!(played(script), expected, "{line}");
+    }
+
     #[test]
     fn wrong_lines_get_their_sentence() {
         for (line, why) in [
@@ -150,7 +157,6 @@ mod tests {
             ("power", "wrong number of words"),
             ("power 00 00", "wrong number of words"),
             ("tick 1 2", "wrong number of words"),
-            ("level x", "wrong number of words"),
             ("power 0g", "not a hexadecimal string"),
             ("power 0x00", "not a hexadecimal string"),
             ("power 0", "odd number of hexadecimal digits"),
@@ -158,13 +164,6 @@ mod tests {
             ("read 10000 00", "number too large"),
             ("read 0 000", "odd number of hexadecimal digits"),
             ("write zz 000", "not a hexadecimal string"),
-            ("level 256 1", "number too large"),
-            ("level -1 1", "not a decimal number"),
-            ("level 1 2", "not 0 or 1"),
-            ("level 1 01", "not 0 or 1"),
-            ("current 1 3f80000", "not a hexadecimal string"),
-            ("current 1 3f8000000", "not a hexadecimal string"),
-            ("current 300 x", "number too large"),
             ("store 4097", "number too large"),
             ("store +5", "not a decimal number"),
             ("tick 4294967296", "number too large"),
@@ -181,8 +180,56 @@ mod tests {
             ("lookup 1 000000000", "not a hexadecimal string"),
             ("lookup 1 -", "not a hexadecimal string"),
         ] {
-            let script = format!("\n{line}\ntick\n");
-            let expected = [format!("error 2: {why}"), "tick 0".to_string()];
+            assert_wrong(line, why);
+        }
+    }
+
+    /// Change 3: the words of a sample, from left to right.
+    #[test]
+    fn wrong_samples_get_their_sentence() {
+        for (line, why) in [
+            ("sample", "wrong number of words"),
+            ("sample 1", "wrong number of words"),
+            ("sample 1 1", "wrong number of words"),
+            ("sample 1 00000000", "wrong number of words"),
+            ("sample 1 1 00000000 0", "wrong number of words"),
+            ("Sample 1 1 00000000", "unknown call"),
+            ("sample 256 1 00000000", "number too large"),
+            ("sample -1 1 00000000", "not a decimal number"),
+            ("sample a 1 00000000", "not a decimal number"),
+            ("sample 1 2 00000000", "not 0 or 1"),
+            ("sample 1 01 00000000", "not 0 or 1"),
+            ("sample 1 00000000 1", "not 0 or 1"),
+            ("sample 1 1 3f80000", "not a hexadecimal string"),
+            ("sample 1 1 3f8000000", "not a hexadecimal string"),
+            ("sample 1 1 -", "not a hexadecimal string"),
+            ("sample 300 2 x", "number too large"),
+            ("sample x 2 x", "not a decimal number"),
+            ("sample 1 2 x", "not 0 or 1"),
+        ] {
+            assert_wrong(line, why);
+        }
+    }
+
+    /// Change 3: "The two calls become one". Of the two, no name is known.
+    #[test]
+    fn a_level_alone_and_a_current_alone_are_unknown_calls() {
+        for line in [
+            "level 1 1",
+            "level",
+            "level x",
+            "level 1 1 00000000",
+            "current 1 3f800000",
+            "current",
+            "current 300 x",
+            "current 1 1 3f800000",
+        ] {
+            let script = format!("{line}\nread 10 00\nread 13 00000000\n");
+            let expected = [
+                "error 1: unknown call",
+                "read 0 1 0 1 00",
+                "read 0 4 0 1 00000000",
+            ];
             assert_eq!(played(script), expected, "{line}");
         }
     }
@@ -197,8 +244,8 @@ mod tests {
     #[test]
     fn long_numbers_with_leading_zeros_stand() {
         assert_eq!(
-            played("read 0000000 0000\nlevel 0001 1\ntick 0000\n"),
-            ["read 0 2 0 1 013f", "level 0", "tick 0"]
+            played("read 0000000 0000\nsample 0001 1 00000000\ntick 0000\n"),
+            ["read 0 2 0 1 013f", "sample 0", "tick 0"]
         );
     }
 

@@ -10,10 +10,10 @@ use crate::reals;
 fn the_feedback_rule_leaves_his() {
     let mut bench = Bench::watchdog_off();
     bench.configure(1, [1, 0x10, 2, 0]);
-    bench.device.level(2, true);
+    bench.device.sample(2, true, 0);
     bench.ticks(4);
     assert_eq!(bench.device.channels[0].act, error::FEEDBACK);
-    bench.device.level(2, false);
+    bench.device.sample(2, false, 0);
     bench.ticks(4);
     assert_eq!(bench.device.channels[0].act, 0);
     assert_eq!(bench.device.channels[0].his, error::FEEDBACK);
@@ -24,7 +24,7 @@ fn the_feedback_rule_leaves_his() {
 fn operating_time_goes_on_past_2097152_seconds() {
     let mut bench = Bench::watchdog_off();
     assert_eq!(bench.write_word(0x14, 0x4A00_0000), 0);
-    bench.device.level(1, true);
+    bench.device.sample(1, true, 0);
     bench.ticks(4);
     assert_eq!(bench.device.channels[0].operating, 16_777_217);
     assert_eq!(bench.read_word(0x14), 0x4A00_0000);
@@ -42,9 +42,9 @@ fn a_one_shot_is_not_reloaded_without_an_edge_seen() {
     bench.write(0x10, &[flag::CONTROL]);
     bench.ticks(3);
     assert_eq!(bench.device.channels[0].out_timer, 240);
-    bench.device.current(1, 0x4040_0000);
+    bench.device.sample(1, false, 0x4040_0000);
     assert!(!bench.device.channels[0].control);
-    bench.device.current(1, 0);
+    bench.device.sample(1, false, 0);
     bench.write(0x10, &[flag::CONTROL]);
     bench.ticks(1);
     assert_eq!(bench.device.channels[0].out_timer, 232);

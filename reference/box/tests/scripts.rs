@@ -18,6 +18,7 @@ const KINDS: &[&str] = &[
     "save",
     "tables",
     "runs",
+    "samples",
     "mixed",
 ];
 
@@ -72,13 +73,12 @@ fn the_scripts_reach_every_number_of_every_call() {
         let answers = played(&generated(seed, 3000, "refusals"));
         seen.extend(answers.lines().map(name_and_number));
     }
-    let expected: [(&str, &[u32]); 8] = [
+    let expected: [(&str, &[u32]); 7] = [
         ("power", &[0, 10, 11, 12, 13]),
         ("store", &[0, 14]),
         ("read", &[0, 1, 2, 5]),
         ("write", &[0, 1, 2, 3, 4, 6, 7]),
-        ("level", &[0, 8]),
-        ("current", &[0, 8, 9]),
+        ("sample", &[0, 8, 9]),
         ("tick", &[0]),
         ("lookup", &[0, 7, 15]),
     ];

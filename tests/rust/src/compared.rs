@@ -138,11 +138,8 @@ mod tests {
         fn write(&mut self, swno: u16, bytes: &[u8]) -> Answer {
             self.0.write(swno, bytes)
         }
-        fn level(&mut self, channel: u8, on: bool) -> u8 {
-            self.0.level(channel, on)
-        }
-        fn current(&mut self, channel: u8, amperes: Real) -> u8 {
-            self.0.current(channel, amperes)
+        fn sample(&mut self, channel: u8, level: bool, amperes: Real) -> u8 {
+            self.0.sample(channel, level, amperes)
         }
         fn tick(&mut self) {
             self.0.tick();

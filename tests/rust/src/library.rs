@@ -51,12 +51,8 @@ impl Device for Library {
         wire(self.0.write(swno, bytes))
     }
 
-    fn level(&mut self, channel: u8, on: bool) -> u8 {
-        number(self.0.level(channel, on))
-    }
-
-    fn current(&mut self, channel: u8, amperes: Real) -> u8 {
-        number(self.0.current(channel, f32::from_bits(amperes)))
+    fn sample(&mut self, channel: u8, level: bool, amperes: Real) -> u8 {
+        number(self.0.sample(channel, level, f32::from_bits(amperes)))
     }
 
     fn tick(&mut self) {

@@ -148,9 +148,10 @@ fn the_library_uses_the_memory_from_its_first_field_to_its_last() {
     module.write(0x0D, &[1]);
     assert!(look(&module).shared.write_enable);
     module.write(0x105, &[1, 2, 3, 4]);
-    module.level(16, true);
+    module.sample(16, true, 0.0625);
     let last = &look(&module).channels[15];
     assert_eq!((last.counter, last.kept.user), (1, [1, 2, 3, 4]));
+    assert_eq!(last.currents.out, 0.0625);
     module.tick();
     assert_eq!(look(&module).channels[15].quarters, 1);
     module.write(0x100, &[0x80]);
@@ -190,8 +191,7 @@ fn no_call_writes_outside_the_module() {
     guarded.module.write(0x13C, &[0; 80]);
     guarded.module.write(0x13D, &[0; 80]);
     for channel in 0..18 {
-        guarded.module.level(channel, true);
-        guarded.module.current(channel, 3.0);
+        guarded.module.sample(channel, true, 3.0);
         guarded.module.tick();
         guarded.module.output(channel);
         guarded.module.look_up(channel, 1.0);

@@ -38,7 +38,7 @@ pub fn used() -> Pd3120 {
     module.write(0x40, &[0x80]).expect("FlagReg");
     module.write(0x0D, &[0]).expect("WriteEnable");
     for on in [true, false, true] {
-        module.level(4, on).expect("channel 4");
+        module.sample(4, on, 0.0).expect("channel 4");
         module.tick();
     }
     module

@@ -162,6 +162,10 @@ in-current s x ch =
     let stored = setOutCurrent x ch in
     either (Kept ch) (Rules.aboveTrip s (stored .currents)) (in-changed (Rules.tripped stored) (outFlag ch) ∙ in-tripped stored) refl
 
+pub in-sample : (s : Shared) (b : Bool) (x : Float) (ch : Channel) → inputs (Rules.takeSample s b x ch) ≡ taken sensed b (inputs ch)
+unfolding Rules.takeSample
+in-sample s b x ch = in-current s x (Rules.takeLevel b ch) ∙ in-level b ch
+
 pub in-flagReg : (b : ℕ) (ch : Channel) → inputs (Rules.flagRegWritten b ch) ≡ taken simulated (bit 6 b) (inputs ch)
 unfolding Rules.flagRegWritten
 in-flagReg b ch = in-simulate _ _ ∙ ap (taken simulated (bit 6 b)) (in-changed _ _ ∙ in-takeControl _ _ ∙ in-takeOut _ _ ∙ in-clearActs _)

@@ -24,22 +24,22 @@ use Rattle.model.specs.Worked.Levels.{LevelBoxes}
 
 pub worked-levels : LevelBoxes
 unfolding played Calls.cleared Calls.watchdogPreset Calls.step Calls.run Calls.powerUp Calls.powerUpAnswer Calls.stored Channel.acknowledged Channel.changed
-    Channel.inputBecomes Channel.takeLevel Channel.simulate Channel.tripped Channel.takeCurrent Channel.takeOut Channel.takeControl Channel.clearActs
-    Channel.flagRegWritten Channel.outFlagsWritten Channel.chConfigWritten Errors.errorByte Errors.anyBit Errors.serviceByte Errors.anyService Errors.comBytes
-    Errors.commonErrorBytes Errors.serviceAcknowledged Image.entryBytes Image.entriesBytes Image.framed Image.summed Image.setupFrom Image.version Image.split
-    Image.contents Image.keptBytes Image.keptFrom Image.pairsFrom Image.pairsAllowed Image.keptAllowed Image.countsMatch Image.allAllowed Image.moduleAllowed
-    Image.encode Image.entryFrom Image.entriesFrom Image.decode Image.sizeRight Image.countsRight Image.sumRight Image.configAllowed Image.moduleConfigAllowed
-    Image.entryAllowed Image.entriesAllowed Image.valuesAllowed Restored.restored Restored.poweredUp Questions.readReply Questions.writeReply
-    Questions.levelReply Questions.currentReply Questions.lookUpReply Questions.powerUpReply Questions.storeReply Reads.flagReg Reads.serviceBytes
-    Reads.digitalBytes Reads.commonBytes Reads.pairsBytes Reads.dataBytes Reads.bytesRead Reads.afterRead Registers.place Settings.functionOf
+    Channel.inputBecomes Channel.takeLevel Channel.simulate Channel.tripped Channel.takeCurrent Channel.takeSample Channel.takeOut Channel.takeControl
+    Channel.clearActs Channel.flagRegWritten Channel.outFlagsWritten Channel.chConfigWritten Errors.errorByte Errors.anyBit Errors.serviceByte Errors.anyService
+    Errors.comBytes Errors.commonErrorBytes Errors.serviceAcknowledged Image.entryBytes Image.entriesBytes Image.framed Image.summed Image.setupFrom
+    Image.version Image.split Image.contents Image.keptBytes Image.keptFrom Image.pairsFrom Image.pairsAllowed Image.keptAllowed Image.countsMatch
+    Image.allAllowed Image.moduleAllowed Image.encode Image.entryFrom Image.entriesFrom Image.decode Image.sizeRight Image.countsRight Image.sumRight
+    Image.configAllowed Image.moduleConfigAllowed Image.entryAllowed Image.entriesAllowed Image.valuesAllowed Restored.restored Restored.poweredUp
+    Questions.readReply Questions.writeReply Questions.sampleReply Questions.lookUpReply Questions.powerUpReply Questions.storeReply Reads.flagReg
+    Reads.serviceBytes Reads.digitalBytes Reads.commonBytes Reads.pairsBytes Reads.dataBytes Reads.bytesRead Reads.afterRead Registers.place Settings.functionOf
     Settings.referenceOf Settings.inA Settings.inB Settings.output Tick.saveDue Tick.tickShared Tick.runsOut Tick.tickService Tick.shutDown Tick.timersRun
-    Tick.oneShot Tick.dutyCycle Tick.timerOutput Tick.overloaded Tick.guarded Tick.driven Tick.lookDue Tick.feedbackWrong Tick.looked Tick.operated Tick.found Tick.judged
-    Tick.saved Tick.reviewed Tick.dataTimersRun Tick.dataTicked Tick.ticked Writes.sharedWritten Writes.errorsWritten Writes.everyWritten
+    Tick.oneShot Tick.dutyCycle Tick.timerOutput Tick.overloaded Tick.guarded Tick.driven Tick.lookDue Tick.feedbackWrong Tick.looked Tick.operated Tick.found
+    Tick.judged Tick.saved Tick.reviewed Tick.dataTimersRun Tick.dataTicked Tick.ticked Writes.sharedWritten Writes.errorsWritten Writes.everyWritten
     Writes.digitalWritten Writes.commonWritten Writes.dataReset Writes.dataWritten Writes.written Integers.modulo Integers.signedBits Integers.wrapped
     Integers.larger Bytes.number Bytes.bytesOf Bytes.signedNumber Bytes.signedBytes Counts.freeRunTick Counts.watchdogTick Counts.outTimerTick
-    Counts.feedbackTick Counts.operatingStep Counts.operatingTick Counts.counterStep Counts.isNegative Counts.isPositive Reals.realFrom Reals.realBytes Reals.whole Reals.unitsOf
-    Reals.countOf Reals.realOf Written.from Written.below Written.upTo ofBits toBits ofInt le lt Calls.storeAnswer xor Lookup.between Lookup.onLine
-    Lookup.fromFirst Lookup.lookedUp Lookup.levelBits add sub mul div eq
+    Counts.feedbackTick Counts.operatingStep Counts.operatingTick Counts.counterStep Counts.isNegative Counts.isPositive Reals.realFrom Reals.realBytes
+    Reals.whole Reals.unitsOf Reals.countOf Reals.realOf Written.from Written.below Written.upTo ofBits toBits ofInt le lt Calls.storeAnswer xor Lookup.between
+    Lookup.onLine Lookup.fromFirst Lookup.lookedUp Lookup.levelBits add sub mul div eq
 worked-levels =
     record {
       at-entries = refl;

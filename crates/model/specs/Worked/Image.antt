@@ -5,8 +5,8 @@ use mathlib.Core.List.{List, [], _∷_, _++_, map}
 use Prim.Native.Nat.{ℕ, _+_, _-_, _*_, _%_}
 use lib.ListN.{length, take, drop, replicate}
 use Rattle.model.specs.Image.{countsRight, entryAllowed}
-use Rattle.model.specs.Calls.{level, run, powerUp, powerUpAnswer, storeAnswer}
-use Rattle.model.specs.Worked.{one, two, four, words, Case, calm, past, answering, _then_, writes, takes, ticks, callIn, boxOf}
+use Rattle.model.specs.Calls.{run, powerUp, powerUpAnswer, storeAnswer}
+use Rattle.model.specs.Worked.{one, two, four, words, Case, calm, past, answering, _then_, writes, takes, sampled, ticks, callIn, boxOf}
 use Rattle.model.specs.Worked.{noEntry, wireBox}
 
 -- ---- the image of `wireBox`, by its sections, as the box before document 02 stored it
@@ -112,17 +112,17 @@ enabledWrites =
     then writes 0x1A (four 0x3E80_0000) past then writes 0x1B (four 0x3F40_0000) past then writes 0x1C (words (0xE1E2_E3E4 ∷ 0xE5E6_E7E8 ∷ [])) past
     then writes 0x1D (four 0xF1F2_F3F4) past then writes 0x19 (four 0x2120_0405) past
 
--- writes of registers 2, 4 and 5 without it, and what is not kept: a level, timers, flags, currents, ticks
+-- writes of registers 2, 4 and 5 without it, and what is not kept: a sample, timers, flags, currents, ticks
 abbrev pub otherWrites : List Case
 otherWrites =
-    writes 0x12 (four 0x0000_0007) past then writes 0x14 (four 0x3F80_0000) past then writes 0x15 (four 0x0102_0304) past then takes (level 1 true)
+    writes 0x12 (four 0x0000_0007) past then writes 0x14 (four 0x3F80_0000) past then writes 0x15 (four 0x0102_0304) past then takes (sampled 1 true 0)
     then writes 0x11 (four 0x3F80_0000) past then writes 0x16 (four 0x3F80_0000) past then writes 0x10 (one 0x80) past
     then writes 0x13 (four 0x3F80_0000) past then ticks 4
 
 -- writes to channel 16, and a rise of its input that Counter counts
 abbrev pub lastWrites : List Case
 lastWrites =
-    writes 0x0D (one 0x01) past then writes 0x102 (four 0x0000_0009) past then writes 0x109 (four 0xFF50_1001) past then takes (level 16 true)
+    writes 0x0D (one 0x01) past then writes 0x102 (four 0x0000_0009) past then writes 0x109 (four 0xFF50_1001) past then takes (sampled 16 true 0)
     then writes 0x104 (four 0x3FC0_0000) past then writes 0x107 (four 0x3F80_0000) past then writes 0x108 (four 0x4000_0000) past
     then writes 0x10A (four 0x8000_0000) past then writes 0x10B (four 0x3F80_0000) past
 

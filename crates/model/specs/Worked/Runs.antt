@@ -8,9 +8,9 @@ use lib.Ieee.{binary32, ofBits}
 use Rattle.counts.specs.declared.Operating.{Operating}
 use Rattle.model.specs.declared.Module.{Module}
 use Rattle.model.specs.State.{channelAt, putChannel, withOperating}
-use Rattle.model.specs.Calls.{level, lookUp}
+use Rattle.model.specs.Calls.{lookUp}
 use Rattle.model.specs.Runs.{ticksOn, gives}
-use Rattle.model.specs.Worked.{Case, one, two, four, calm, past, _then_, reads, writes, refusedWrite, refusedRead, takes, refuses, amperes, ticks, callIn, Plays, boxOf}
+use Rattle.model.specs.Worked.{Case, one, two, four, calm, past, _then_, reads, writes, refusedWrite, refusedRead, takes, refuses, sampled, ticks, callIn, Plays, boxOf}
 use Rattle.model.specs.Worked.{entry, noEntry}
 
 -- the watchdog off; inputs, of which channel 2 is simulated
@@ -19,7 +19,7 @@ runBox = boxOf 0x0010_0000 0 (noEntry ∷ entry 0x0100_0000 0 0 ∷ replicate 14
 
 -- channel 1 is on for n ticks
 abbrev pub onFor : ℕ → List Case
-onFor n = takes (level 1 true) then ticks n then takes (level 1 false)
+onFor n = takes (sampled 1 true 0) then ticks n then takes (sampled 1 false 0)
 
 -- its OperatingTime, a Real: 0x3E00_0000 is 1/8 s, 0x3F80_0000 is 1 s
 abbrev pub shows : ℕ → List Case
@@ -35,13 +35,13 @@ refusals =
     onFor 3 then refusedWrite 4 0x14 (two 0x3F80) past then refusedWrite 7 0x14 (four 0xBF80_0000) past then refusedWrite 7 0x14 (four 0x7F80_0000) past
     then refusedWrite 7 0x03 (one 0x00) past then refusedRead 5 0x14 3 past then refuses 15 (lookUp 3 (ofBits binary32 0)) then onFor 1 then shows 0x3E00_0000
 
--- the same with writes of FlagReg, Counter, user bytes, ChConfig, OutFlags and InFlags, of another channel's OperatingTime and of CommonError, a current
+-- the same with writes of FlagReg, Counter, user bytes, ChConfig, OutFlags and InFlags, of another channel's OperatingTime and of CommonError, a sample
 -- that trips and one that does not
 abbrev pub others : List Case
 others =
     onFor 3 then writes 0x10 (one 0x00) past then writes 0x12 (four 7) past then writes 0x15 (four 7) past then writes 0x0D (one 0x01) past
     then writes 0x12 (four 7) past then writes 0x19 (four 0) past then writes 0x110 (two 0) past then writes 0x111 (two 0) past
-    then writes 0x24 (four 0x3F80_0000) past then takes (amperes 1 0x4040_0000) then takes (amperes 1 0)
+    then writes 0x24 (four 0x3F80_0000) past then takes (sampled 1 false 0x4040_0000) then takes (sampled 1 false 0)
     then writes 0x10 (one 0x00) past then writes 0x0F (replicate 12 0) calm then onFor 1 then reads 0x14 (four 0x3E00_0000) calm
 
 pub record RunBoxes : Type 0 where

@@ -12,8 +12,8 @@ use Rattle.model.specs.Restored.{poweredUp}
 use Rattle.model.specs.State.{sharedOf, saveTicks}
 use Rattle.model.specs.Tick.{tickShared}
 use Rattle.model.specs.declared.Shared.{Shared}
-use Rattle.model.specs.Calls.{level, tick}
-use Rattle.model.specs.Worked.{one, four, past, present, _then_, reads, writes, refusedWrite, takes, ticks, Plays, configOf, boxOf, entry}
+use Rattle.model.specs.Calls.{tick}
+use Rattle.model.specs.Worked.{one, four, past, present, _then_, reads, writes, refusedWrite, takes, sampled, ticks, Plays, configOf, boxOf, entry}
 use Rattle.model.specs.Worked.{noEntry}
 
 -- an output whose Counter, operating count and user bytes are kept
@@ -57,28 +57,28 @@ afterTicks n = sharedOf (timer (pos 0)) (configOf 0) (timer (pos 0)) false n
 pub record Saves : Type 0 where
   -- A tick 7: the 1151999th tick keeps nothing
   pub before-save : Plays lateBox
-      (takes (level 1 true) then takes (level 2 true) then writes 0x15 (four 0x0A0B_0C0D) past then ticks 3 then writes 0x03 (one 0xFF) past
+      (takes (sampled 1 true 0) then takes (sampled 2 true 0) then writes 0x15 (four 0x0A0B_0C0D) past then ticks 3 then writes 0x03 (one 0xFF) past
       then reads 0x12 (four 0x0000_0005) past then reads 0x14 (four 0x3F60_0000) past then reads 0x15 (four 0x0102_0304) past
       then reads 0x22 (four 0) past then reads 0x24 (four 0) past)
   -- the 1152000th keeps Counter and the operating count of every channel, after step 5, and no user bytes
   pub save : Plays lateBox
-      (takes (level 1 true) then takes (level 2 true) then writes 0x15 (four 0x0A0B_0C0D) past then ticks 4 then writes 0x03 (one 0xFF) past
+      (takes (sampled 1 true 0) then takes (sampled 2 true 0) then writes 0x15 (four 0x0A0B_0C0D) past then ticks 4 then writes 0x03 (one 0xFF) past
       then reads 0x12 (four 0x0000_0006) past then reads 0x14 (four 0x3F80_0000) past then reads 0x15 (four 0x0102_0304) past
       then reads 0x22 (four 0x0000_0001) past then reads 0x24 (four 0x3E00_0000) past)
   -- and the next does not
   pub after-save : Plays lateBox
-      (takes (level 1 true) then takes (level 2 true) then writes 0x15 (four 0x0A0B_0C0D) past then ticks 4 then takes (level 1 false)
-      then takes (level 1 true) then writes 0x15 (four 0x0A0B_0C0D) present then takes tick then reads 0x12 (four 0x0000_0007) present
+      (takes (sampled 1 true 0) then takes (sampled 2 true 0) then writes 0x15 (four 0x0A0B_0C0D) past then ticks 4 then takes (sampled 1 false 0)
+      then takes (sampled 1 true 0) then writes 0x15 (four 0x0A0B_0C0D) present then takes tick then reads 0x12 (four 0x0000_0007) present
       then writes 0x03 (one 0xFF) past then reads 0x12 (four 0x0000_0006) past then reads 0x14 (four 0x3F80_0000) past
       then reads 0x15 (four 0x0102_0304) past then reads 0x22 (four 0x0000_0001) past then reads 0x24 (four 0x3E00_0000) past)
   -- Change 2, 2: a save keeps no quarters, and takes none: two before it and two after it make an eighth, of which a reset gives none
   pub quarters : Plays lateBox
-      (ticks 2 then takes (level 1 true) then takes (level 2 true) then ticks 2 then reads 0x14 (four 0x3F60_0000) present then ticks 2
+      (ticks 2 then takes (sampled 1 true 0) then takes (sampled 2 true 0) then ticks 2 then reads 0x14 (four 0x3F60_0000) present then ticks 2
       then reads 0x14 (four 0x3F80_0000) present then reads 0x24 (four 0x3E00_0000) present then writes 0x03 (one 0xFF) past
       then reads 0x14 (four 0x3F60_0000) past then reads 0x24 (four 0) past)
   -- a write of WriteEnable, refused or not, leaves the count
   pub enable-between : Plays lateBox
-      (takes (level 1 true) then takes (level 2 true) then writes 0x15 (four 0x0A0B_0C0D) past then writes 0x0D (one 0x01) past
+      (takes (sampled 1 true 0) then takes (sampled 2 true 0) then writes 0x15 (four 0x0A0B_0C0D) past then writes 0x0D (one 0x01) past
       then refusedWrite 7 0x0D (one 0x02) past then writes 0x0D (one 0x00) past then ticks 4 then writes 0x03 (one 0xFF) past
       then reads 0x12 (four 0x0000_0006) past then reads 0x14 (four 0x3F80_0000) past then reads 0x15 (four 0x0102_0304) past
       then reads 0x22 (four 0x0000_0001) past then reads 0x24 (four 0x3E00_0000) past)

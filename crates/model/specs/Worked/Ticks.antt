@@ -5,8 +5,8 @@ use Prim.Native.Nat.{ℕ}
 use lib.ListN.{replicate}
 use Rattle.model.specs.declared.Module.{Module}
 use Rattle.model.specs.Image.{Entry}
-use Rattle.model.specs.Calls.{level, tick}
-use Rattle.model.specs.Worked.{one, two, four, words, past, present, _then_, reads, writes, takes, amperes, ticks, bytesFrom, wordsFrom}
+use Rattle.model.specs.Calls.{tick}
+use Rattle.model.specs.Worked.{one, two, four, words, past, present, _then_, reads, writes, takes, sampled, ticks, bytesFrom, wordsFrom}
 use Rattle.model.specs.Worked.{Plays, boxOf, limited, entry, noEntry}
 
 -- an input whose operating count is two below its end
@@ -74,12 +74,12 @@ tripBox = boxOf 0x0010_0000 0 (entry 0x0010_0000 40 0 ∷ replicate 15 noEntry)
 pub record Ticks : Type 0 where
   -- A tick 4: above 2 A the tick trips an output that was put on again, while FBTimer still runs, and the change rule starts FBTimer anew
   pub trips : Plays tripBox
-      (takes (amperes 1 0x4040_0000) then writes 0x10 (one 0x80) past then reads 0x10 (one 0x80) past then takes tick then reads 0x10 (one 0x02) present
+      (takes (sampled 1 false 0x4040_0000) then writes 0x10 (one 0x80) past then reads 0x10 (one 0x80) past then takes tick then reads 0x10 (one 0x02) present
       then reads 0x16 (four 0x3E20_0000) present then reads 0x1F (four 0x4800_4800) present)
   -- A tick 5: the looks at ticks 4 and 8, channels 1 to 16 with each sense of A and B, output on and off, simulated or not; FBTimer and bit 1; operating
   --  time of channels that are on for eight ticks and for two
   pub feedback : Plays feedbackBox
-      (takes (level 15 true) then writes 0x20 (one 0x80) past then writes 0x40 (one 0x80) past then writes 0x60 (one 0x80) past
+      (takes (sampled 15 true 0) then writes 0x20 (one 0x80) past then writes 0x40 (one 0x80) past then writes 0x60 (one 0x80) past
       then writes 0x80 (one 0x80) past then writes 0x90 (one 0x80) past then writes 0xB0 (one 0x80) past then writes 0xD0 (one 0x80) past
       then writes 0x100 (one 0xC0) past then bytesFrom 0x10 16 past (0x20 ∷ 0xA4 ∷ 0x00 ∷ 0x84 ∷ 0x10 ∷ 0x94 ∷ 0x00 ∷ 0x84 ∷ 0xA4 ∷ 0x20 ∷ 0xA4 ∷
       0x10 ∷ 0xA0 ∷ 0x00 ∷ 0x40 ∷ 0xF4 ∷ []) then ticks 3 then bytesFrom 0x10 16 present (0x20 ∷ 0xA6 ∷ 0x00 ∷ 0x86 ∷ 0x10 ∷ 0x96 ∷ 0x00 ∷ 0x86 ∷
@@ -87,8 +87,8 @@ pub record Ticks : Type 0 where
       then takes tick then bytesFrom 0x10 16 present (0x26 ∷ 0xA2 ∷ 0x00 ∷ 0x86 ∷ 0x10 ∷ 0x96 ∷ 0x06 ∷ 0x82 ∷ 0xA2 ∷ 0x26 ∷ 0xA2 ∷ 0x10 ∷ 0xA2 ∷
       0x00 ∷ 0x40 ∷ 0xF4 ∷ []) then reads 0xF4 (four 0x4E00_0000) present then reads 0x104 (four 0x3E00_0000) present
       then reads 0xE4 (four 0) present then ticks 2 then wordsFrom 0x1F 16 present (0x0200_0200 ∷ 0x0400_0400 ∷ 0 ∷ 0x0600_0600 ∷ 0 ∷ 0x0600_0600 ∷
-      0x0200_0200 ∷ 0x0400_0400 ∷ 0x0400_0400 ∷ 0x0200_0200 ∷ 0x0400_0400 ∷ 0 ∷ 0x0400_0400 ∷ 0 ∷ 0 ∷ 0x0200_0200 ∷ []) then takes (level 15 false)
-      then takes (level 14 true) then ticks 2 then bytesFrom 0x10 16 present (0x00 ∷ 0x86 ∷ 0x26 ∷ 0xA2 ∷ 0x06 ∷ 0x82 ∷ 0x10 ∷ 0x96 ∷ 0x96 ∷ 0x10 ∷
+      0x0200_0200 ∷ 0x0400_0400 ∷ 0x0400_0400 ∷ 0x0200_0200 ∷ 0x0400_0400 ∷ 0 ∷ 0x0400_0400 ∷ 0 ∷ 0 ∷ 0x0200_0200 ∷ []) then takes (sampled 15 false 0)
+      then takes (sampled 14 true 0) then ticks 2 then bytesFrom 0x10 16 present (0x00 ∷ 0x86 ∷ 0x26 ∷ 0xA2 ∷ 0x06 ∷ 0x82 ∷ 0x10 ∷ 0x96 ∷ 0x96 ∷ 0x10 ∷
       0xA2 ∷ 0x10 ∷ 0xA2 ∷ 0x40 ∷ 0x00 ∷ 0xE0 ∷ []) then wordsFrom 0x16 16 present (0xBE80_0000 ∷ 0xBDC0_0000 ∷ 0xBE80_0000 ∷ 0xBDC0_0000 ∷
       0xBE80_0000 ∷ 0xBDC0_0000 ∷ 0xBE80_0000 ∷ 0xBDC0_0000 ∷ 0xBDC0_0000 ∷ 0xBE80_0000 ∷ 0xBDC0_0000 ∷ 0xBE80_0000 ∷ 0xBDC0_0000 ∷ 0xBE80_0000 ∷
       0xBE80_0000 ∷ 0xBDC0_0000 ∷ []) then reads 0xF4 (four 0x4E00_0000) present then reads 0x104 (four 0x3E80_0000) present
@@ -96,12 +96,11 @@ pub record Ticks : Type 0 where
   -- A tick 4 and 6: the trip in a tick, above MaxCurrent and not at it, silenced and not, late and early; each Act bit with what silences it; His after
   --  an acknowledgement
   pub errors : Plays errorBox
-      (takes (amperes 1 0x3E80_0000) then takes (level 1 true) then takes (amperes 2 0x3E80_0000) then takes (level 3 true) then takes (level 4 true)
-      then takes (amperes 4 0x3DCC_CCCD) then takes (amperes 5 0x3E80_0000) then takes (level 5 true) then takes (amperes 6 0x3DCC_CCCE)
-      then takes (amperes 7 0x3E80_0000) then takes (amperes 9 0x3F40_0000) then takes (level 9 true) then takes (amperes 10 0x3F40_0001)
-      then takes (level 10 true) then takes (amperes 11 0x3F40_0001) then takes (amperes 12 0x3F40_0001) then takes (level 12 true)
-      then takes (amperes 13 0x3F40_0001) then takes (amperes 14 0x3F00_0000) then takes (level 14 true) then takes (amperes 16 0x4040_0000)
-      then takes (amperes 16 0x3F19_999A) then writes 0x10 (one 0x80) present then writes 0x20 (one 0x80) present
+      (takes (sampled 1 true 0x3E80_0000) then takes (sampled 2 false 0x3E80_0000) then takes (sampled 3 true 0) then takes (sampled 4 true 0x3DCC_CCCD)
+      then takes (sampled 5 true 0x3E80_0000) then takes (sampled 6 false 0x3DCC_CCCE) then takes (sampled 7 true 0x3E80_0000)
+      then takes (sampled 9 true 0x3F40_0000) then takes (sampled 10 true 0x3F40_0001) then takes (sampled 11 false 0x3F40_0001)
+      then takes (sampled 12 true 0x3F40_0001) then takes (sampled 13 false 0x3F40_0001) then takes (sampled 14 true 0x3F00_0000)
+      then takes (sampled 16 false 0x4040_0000) then takes (sampled 16 false 0x3F19_999A) then writes 0x10 (one 0x80) present then writes 0x20 (one 0x80) present
       then writes 0x50 (one 0x80) present then writes 0x80 (one 0x80) present then writes 0x90 (one 0x80) present
       then writes 0xA0 (one 0x80) present then writes 0xB0 (one 0x80) present then writes 0xC0 (one 0x80) present
       then writes 0xE0 (one 0x80) present then writes 0x70 (one 0x40) present then writes 0x110 (two 0xAF93) present
@@ -124,7 +123,7 @@ pub record Ticks : Type 0 where
       then bytesFrom 0x10 16 present (0x8E ∷ 0x08 ∷ 0x8E ∷ 0x8A ∷ 0x08 ∷ 0x82 ∷ 0x8A ∷ 0x8A ∷ 0x8A ∷ 0x8A ∷ []) then wordsFrom 0x11 16 present
       (0x3D40_0000 ∷ 0xBD00_0000 ∷ 0x3C80_0000 ∷ 0 ∷ 0 ∷ 0 ∷ 0x3EB8_0000 ∷ 0x3EB8_0000 ∷ 0x3F70_0000 ∷ 0x3E00_0000 ∷ [])
       then writes 0x70 (one 0x80) present then writes 0x80 (one 0x80) present then writes 0x90 (one 0x80) present
-      then takes (amperes 10 0x4040_0000) then takes (amperes 10 0x0000_0000) then writes 0xA0 (one 0x08) present then takes tick
+      then takes (sampled 10 false 0x4040_0000) then takes (sampled 10 false 0x0000_0000) then writes 0xA0 (one 0x08) present then takes tick
       then bytesFrom 0x10 16 present (0x8E ∷ 0x08 ∷ 0x0C ∷ 0x08 ∷ 0x08 ∷ 0x82 ∷ 0x00 ∷ 0x00 ∷ 0x00 ∷ 0x8A ∷ []) then wordsFrom 0x11 16 present
       (0x3C80_0000 ∷ 0xBD80_0000 ∷ 0x3D40_0000 ∷ 0 ∷ 0xBD00_0000 ∷ 0xBD00_0000 ∷ 0x3EA8_0000 ∷ 0x3EA8_0000 ∷ 0x3F68_0000 ∷ 0x3DC0_0000 ∷ []) then
       wordsFrom 0x16 16 present (0x3EA8_0000 ∷ 0xBDC0_0000 ∷ 0x3EC8_0000 ∷ 0x3EC8_0000 ∷ 0x3EB8_0000 ∷ 0x3E98_0000 ∷ 0x3EC8_0000 ∷ 0x3EC8_0000 ∷
@@ -136,7 +135,7 @@ pub record Ticks : Type 0 where
   pub watchdog : Plays watchdogBox
       (writes 0x10 (one 0x80) past then writes 0x20 (one 0x88) past then writes 0x40 (one 0x88) past
       then reads 0x0F (words (0x8000_0000 ∷ 0 ∷ 0 ∷ [])) past then ticks 2 then reads 0x08 (four 0x3C80_0000) present
-      then reads 0x110 (two 0x000B) present then takes tick then takes (level 3 false) then takes (amperes 3 0x0000_0000) then ticks 2
+      then reads 0x110 (two 0x000B) present then takes tick then takes (sampled 3 false 0) then ticks 2
       then reads 0x0F (words (0x0900_0000 ∷ 0x1600_0200 ∷ 0 ∷ [])) past then reads 0x0F (words (0x0100_0000 ∷ 0x1600_0200 ∷ 0 ∷ [])) past
       then reads 0x110 (two 0) past then bytesFrom 0x10 16 past (0x04 ∷ 0x00 ∷ 0x00 ∷ 0x00 ∷ [])
       then wordsFrom 0x16 16 past (0x407A_0000 ∷ 0x407A_0000 ∷ 0xBE20_0000 ∷ 0x407A_0000 ∷ [])

@@ -13,7 +13,7 @@ use Rattle.model.specs.declared.Reply.{Reply}
 use Rattle.model.specs.declared.Reply.the-variants.{Done, Refused}
 use Rattle.model.specs.State.{nothing, channelAt, withChannels}
 use Rattle.model.specs.Settings.{isDigital}
-use Rattle.model.specs.Questions.{levelReply, currentReply}
+use Rattle.model.specs.Questions.{sampleReply}
 use Rattle.model.specs.Calls.{Stepped, answerOf, sampledAs}
 use Rattle.registers.specs.Places.{slotOf}
 use Rattle.questions.proofs.Laws.Answers.{yes}
@@ -22,13 +22,9 @@ use Rattle.pd3120.specs.declared.Sampled.{Sampled}
 use Rattle.pd3120.specs.Answers.{stepOf, sampleOf, plainOf}
 
 -- an accepted sample is for channel 1 to 16
-pub level-digital : (k n : ℕ) → levelReply k ≡ Done n → isDigital k ≡ true
-unfolding levelReply
-level-digital k n e = yes (isDigital k) _ _ n e .0
-
-pub current-digital : (k : ℕ) (x : Float) (n : ℕ) → currentReply k x ≡ Done n → isDigital k ≡ true
-unfolding currentReply
-current-digital k x n e = yes (isDigital k) _ _ n e .0
+pub is-digital : (k : ℕ) (x : Float) (n : ℕ) → sampleReply k x ≡ Done n → isDigital k ≡ true
+unfolding sampleReply
+is-digital k x n e = yes (isDigital k) _ _ n e .0
 
 -- ---- the box m with a channel put back at its place, and the answer, are the model's; q is the model's reply, and r the code's
 abbrev pub putBack : Reply → Channel → ℕ → Module → Stepped

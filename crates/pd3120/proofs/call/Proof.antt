@@ -21,23 +21,14 @@ write-requires c κs = search needs
 enum-known-c-3 : tie.Need-enum-known-c-3
 enum-known-c-3 c = search needs
 
-level-requires : tie.Need-level-requires
-level-requires c κs = search needs
+sample-requires : tie.Need-sample-requires
+sample-requires c κs = search needs
 
 plain-requires : tie.Need-plain-requires
 plain-requires c κs = search needs
 
 enum-known-c-4 : tie.Need-enum-known-c-4
 enum-known-c-4 c = search needs
-
-current-requires : tie.Need-current-requires
-current-requires c κs = search needs
-
-plain-requires-2 : tie.Need-plain-requires-2
-plain-requires-2 c κs = search needs
-
-enum-known-c-5 : tie.Need-enum-known-c-5
-enum-known-c-5 c = search needs
 
 looked-up-requires : tie.Need-looked-up-requires
 looked-up-requires c κs = search needs
@@ -48,8 +39,8 @@ enum-told c = search needs
 tick-requires : tie.Need-tick-requires
 tick-requires c κs = search needs
 
-plain-requires-3 : tie.Need-plain-requires-3
-plain-requires-3 c κs = search needs
+plain-requires-2 : tie.Need-plain-requires-2
+plain-requires-2 c κs = search needs
 
 same-length : tie.Need-same-length
 same-length c = search needs
@@ -62,23 +53,16 @@ returns-2 c = rw (c .before .before .c2 .given .1) (c .write .ensures, refl)
 
 returns-3 : tie.Need-returns-3
 returns-3 c = rw (c .before .before .before .c3 .given .1) (
-  plain-answer _ (c .before .level .result) (c .plain .result) (c .before .level .ensures)
+  plain-answer _ (c .before .sample .result) (c .plain .result) (c .before .sample .ensures)
       (c .plain .ensures),
   refl,
 )
 
 returns-4 : tie.Need-returns-4
-returns-4 c = rw (c .before .before .before .c4 .given .1) (
-  plain-answer _ (c .before .current .result) (c .plain2 .result) (c .before .current .ensures)
-      (c .plain2 .ensures),
-  refl,
-)
+returns-4 c = rw (c .before .before .c4 .given .1) (c .looked-up .ensures, refl)
 
 returns-5 : tie.Need-returns-5
-returns-5 c = rw (c .before .before .c5 .given .1) (c .looked-up .ensures, refl)
-
-returns-6 : tie.Need-returns-6
-returns-6 c = rw (c .before .before .enum-told .given .1) (plain-answer _ _ (c .plain3 .result) (c .before .tick .ensures) (c .plain3 .ensures), refl)
+returns-5 c = rw (c .before .before .enum-told .given .1) (plain-answer _ _ (c .plain2 .result) (c .before .tick .ensures) (c .plain2 .ensures), refl)
 
 pub call-spec : {M : Type 1} → statement M
 call-spec =
@@ -89,20 +73,16 @@ call-spec =
     enum-known-c-2
     write-requires
     enum-known-c-3
-    level-requires
+    sample-requires
     plain-requires
     enum-known-c-4
-    current-requires
-    plain-requires-2
-    enum-known-c-5
     looked-up-requires
     enum-told
     tick-requires
-    plain-requires-3
+    plain-requires-2
     same-length
     returns
     returns-2
     returns-3
     returns-4
-    returns-5
-    returns-6)
+    returns-5)

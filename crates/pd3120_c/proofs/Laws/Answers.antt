@@ -1,9 +1,10 @@
 -- An answer packed: the module and the code of the model's step, from what the library's call and the packing give. Assumes nothing.
 use mathlib.Core.Path.{_≡_, refl, sym, ap, _∙_}
-use mathlib.Core.Bool.{false}
+use mathlib.Core.Bool.{Bool, false}
 use mathlib.Core.List.{List}
 use Prim.Native.Nat.{ℕ, _/_}
 use lib.ListN.{getD, set}
+use lib.Ieee.{Float}
 use Rattle.model.specs.declared.Channel.{Channel}
 use Rattle.model.specs.declared.DataChannel.{DataChannel}
 use Rattle.model.specs.declared.Module.{Module}
@@ -12,7 +13,7 @@ use Rattle.model.specs.declared.Shared.{Shared}
 use Rattle.model.specs.State.{dataChannel, nothing, withChannels}
 use Rattle.model.specs.Errors.{dataError, generalError}
 use Rattle.model.specs.Questions.{numberOf, lengthOf}
-use Rattle.model.specs.Calls.{Request, Stepped, step}
+use Rattle.model.specs.Calls.{sample, Stepped, step}
 use Rattle.errors.specs.declared.words.Words.{Words}
 use Rattle.registers.specs.Places.{slotOf}
 use Rattle.writes.specs.declared.Begun.{Begun}
@@ -57,12 +58,12 @@ write-left s v ch n bs b number h f l = (
 )
 
 -- a sample's channel, of any module
-pub sample-done : (x : Request) (s : Shared) (ch : Channel) (i : ℕ) (t : Taken) (code : ℕ) → SampleBy x s ch i t → code ≡ replyCode (t .reply) false false
-    → SampleLeft x s ch i (record { after = t .after; code = code })
-sample-done x s ch i t code h f = λ m e p. let q = h m e p in (ap (λ (z : Stepped). z .box) q, f ∙ ap (λ (z : Stepped). answerCode (z .answer)) q)
+pub sample-done : (k : ℕ) (b : Bool) (x : Float) (s : Shared) (ch : Channel) (t : Taken) (code : ℕ) → SampleBy k b x s ch t
+    → code ≡ replyCode (t .reply) false false → SampleLeft k b x s ch (record { after = t .after; code = code })
+sample-done k b x s ch t code h f = λ m e p. let q = h m e p in (ap (λ (z : Stepped). z .box) q, f ∙ ap (λ (z : Stepped). answerCode (z .answer)) q)
 
 -- and of the caller's
-pub sample-left : (x : Request) (m : Module) (k i : ℕ) (d : ChannelDone) → i ≡ slotOf k → SampleLeft x (m .shared) (getD (m .channels) i nothing)
-    (slotOf k) d
-    → Left (step m x) (withChannels (set (m .channels) i (d .after)) m) (d .code)
-sample-left x m k i d e h = rw e (h m refl (ap (λ (j : ℕ). getD (m .channels) j nothing) (sym e)))
+pub sample-left : (m : Module) (k : ℕ) (b : Bool) (x : Float) (i : ℕ) (d : ChannelDone) → i ≡ slotOf k
+    → SampleLeft k b x (m .shared) (getD (m .channels) i nothing) d
+    → Left (step m (sample k b x)) (withChannels (set (m .channels) i (d .after)) m) (d .code)
+sample-left m k b x i d e h = rw e (h m refl (ap (λ (j : ℕ). getD (m .channels) j nothing) (sym e)))

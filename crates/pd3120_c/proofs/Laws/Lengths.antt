@@ -2,8 +2,9 @@
 use mathlib.Core.Path.{_≡_, refl, sym, ap, subst, _∙_}
 use mathlib.Core.Bool.{Bool, true, false, cond}
 use mathlib.Core.List.{List, [], _∷_}
-use Prim.Native.Nat.{ℕ, _/_, _≤_, _<_}
+use Prim.Native.Nat.{ℕ, _/_, _≤_}
 use native.Mathlib.Omega.{arith}
+use lib.Ieee.{Float}
 use lib.IntN.{pos}
 use lib.ListN.{replicate, length-replicate, getD-replicate}
 use Rattle.counts.specs.Counts.{timer}
@@ -18,11 +19,11 @@ use Rattle.model.specs.declared.Service.{Service}
 use Rattle.model.specs.declared.Shared.{Shared}
 use Rattle.model.specs.State.{writeEnable, serviceOf, moduleOf, nothing}
 use Rattle.model.specs.Registers.{Place, service, digital, common, data-channel, unlisted, dataRow, place, size}
-use Rattle.model.specs.Questions.{Question, asked, lengthOf, readReply, writeReply, levelReply, currentReply, lookUpReply, powerUpReply, storeReply}
-use Rattle.model.specs.Questions.{readQuestions, writeQuestions, levelQuestions, currentQuestions, lookUpQuestions, powerUpQuestions, storeQuestions}
+use Rattle.model.specs.Questions.{Question, asked, lengthOf, readReply, writeReply, sampleReply, lookUpReply, powerUpReply, storeReply}
+use Rattle.model.specs.Questions.{readQuestions, writeQuestions, sampleQuestions, lookUpQuestions, powerUpQuestions, storeQuestions}
 use Rattle.model.specs.Image.{imageSize, keptFrom}
 use Rattle.model.specs.Restored.{noServiceBits, restoredData}
-use Rattle.model.specs.Calls.{Request, read, write, level, current, lookUp, tick, Answer, answerOf, Stepped, step, powerUpAnswer, storeAnswer}
+use Rattle.model.specs.Calls.{Request, read, write, sample, lookUp, tick, Answer, answerOf, Stepped, step, powerUpAnswer, storeAnswer}
 use Rattle.reads.proofs.Laws.Held.{service-fits, digital-fits, common-fits}
 use Rattle.pd3120.specs.declared.samples.Taken.{Taken}
 use Rattle.registers.specs.Places.{slotOf}
@@ -57,11 +58,10 @@ register-length (data-channel r) = data-length r
 register-length unlisted = omega arith
 
 pub step-length : (m : Module) (x : Request) → step m x .answer .length ≤ imageSize
-unfolding step readReply writeReply levelReply currentReply lookUpReply
+unfolding step readReply writeReply sampleReply lookUpReply
 step-length m (read n lent) = let p = place n in within (size p) _ (asked-length (readQuestions n p lent) (size p)) (register-length p)
 step-length m (write n bs) = within 0 _ (asked-length (writeQuestions (writeEnable (m .shared)) n (place n) bs) 0) (omega arith)
-step-length m (level k b) = within 0 _ (asked-length (levelQuestions k) 0) (omega arith)
-step-length m (current k x) = within 0 _ (asked-length (currentQuestions k x) 0) (omega arith)
+step-length m (sample k b x) = within 0 _ (asked-length (sampleQuestions k x) 0) (omega arith)
 step-length m (lookUp k x) = within 0 _ (asked-length (lookUpQuestions k x) 0) (omega arith)
 step-length m tick = omega arith
 
@@ -78,11 +78,12 @@ reply-length m x r buf d g e = subst (λ (n : ℕ). n ≤ imageSize) (ap (λ (a 
 someModule : Shared → Service → Channel → Module
 someModule s v ch = moduleOf s v (replicate 16 ch) (restoredData (keptFrom []))
 
-pub sample-length : (x : Request) (s : Shared) (ch : Channel) (i : ℕ) (t : Taken) → i < 16 → SampleBy x s ch i t → lengthOf (t .reply) ≤ imageSize
+pub sample-length : (k : ℕ) (b : Bool) (x : Float) (s : Shared) (ch : Channel) (t : Taken) → SampleBy k b x s ch t → lengthOf (t .reply) ≤ imageSize
 unfolding someModule
-sample-length x s ch i t l h =
+sample-length k b x s ch t h =
     let m = someModule s (serviceOf (timer (pos 0)) noServiceBits noServiceBits) ch in
-    reply-length m x (t .reply) [] false false (ap (λ (z : Stepped). z .answer) (h m refl (getD-replicate 16 i ch nothing l)))
+    reply-length m (sample k b x) (t .reply) [] false false
+    (ap (λ (z : Stepped). z .answer) (h m refl (getD-replicate 16 (slotOf k) ch nothing (slot-fits k))))
 
 -- a write answers no length
 none : (n : ℕ) → n ≤ 0 → n ≡ 0

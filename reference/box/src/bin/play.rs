@@ -11,16 +11,15 @@
 //! | `store N`         | `store NUMBER LENGTH BUFFER`                    |
 //! | `read SWNO HEX`   | `read NUMBER LENGTH DATAERROR GENERALERROR BUFFER` |
 //! | `write SWNO HEX`  | `write NUMBER 0 DATAERROR GENERALERROR`         |
-//! | `level CH 0`, `1` | `level NUMBER`                                  |
-//! | `current CH REAL` | `current NUMBER`                                |
+//! | `sample CH LEVEL REAL` | `sample NUMBER`                            |
 //! | `tick [N]`        | `tick 0`, one line for N ticks                  |
 //! | `lookup TABLE REAL` | `lookup NUMBER REAL`, `00000000` where refused |
 //!
 //! `store` lends N bytes of $A5, N up to 4096. SWNO is hexadecimal, up to
-//! $FFFF; CH and TABLE are decimal, up to 255; REAL is a Real's eight
-//! hexadecimal digits, lowercase ones in an answer; N ticks are decimal, up to
-//! 4294967295, 1 if left out. Before the first `power` the box is the one of a
-//! refused power-up.
+//! $FFFF; CH and TABLE are decimal, up to 255; LEVEL is 0 or 1; REAL is a
+//! Real's eight hexadecimal digits, lowercase ones in an answer; N ticks are
+//! decimal, up to 4294967295, 1 if left out. Before the first `power` the box
+//! is the one of a refused power-up.
 //!
 //! Every other line changes nothing and gets `error LINE: WHY`, with LINE
 //! counted from 1. WHY is the first of these that holds, words being looked

@@ -3,6 +3,7 @@ mod image_and_reset;
 mod quarters;
 mod questions;
 mod registers;
+mod samples;
 
 use super::*;
 use crate::bench::{with_watchdog, Bench};
@@ -23,8 +24,7 @@ fn busy() -> Bench {
     bench.configure(2, [0, 0x20, 0, 0]);
     bench.write(0x10, &[0xFF]);
     bench.write(0x20, &[0xFF]);
-    bench.device.level(2, true);
-    bench.device.current(2, 0x4000_0001);
+    bench.device.sample(2, true, 0x4000_0001);
     bench.write(0x0D, &[1]);
     bench.write(0x15, &[1, 2, 3, 4]);
     bench.write_word(0x130, reals::ONE);

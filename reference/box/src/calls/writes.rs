@@ -37,7 +37,7 @@ impl ChannelBox {
             Digital::FlagReg => channel.write_flag_reg(bytes[0]),
             Digital::OutTimer => channel.out_timer = reals::to_timer_count(real(bytes)),
             Digital::FbTimer => channel.fb_timer = reals::to_timer_count(real(bytes)),
-            Digital::OutCurrent => channel.current(real(bytes)),
+            Digital::OutCurrent => channel.set_current(real(bytes)),
             Digital::Counter | Digital::OperatingTime | Digital::UserBytes => {
                 write_working(channel, register, bytes, keep);
             }

@@ -86,7 +86,7 @@ fn a_bit_that_is_not_taken_leaves_the_flag() {
 #[test]
 fn a_current_above_two_trips_an_input_too() {
     let mut input = channel(0, 0, 0, 0);
-    input.current(reals::TWO + 1);
+    input.set_current(reals::TWO + 1);
     assert_eq!((input.act, input.fb_timer), (error::OVERLOAD, 0));
 }
 
@@ -108,7 +108,7 @@ fn levels_count_rises_and_wrap() {
     let mut input = channel(0, 0, 0, 0);
     input.counter = i32::MAX;
     for on in [true, true, false, false, true] {
-        input.level(on);
+        input.set_level(on);
     }
     assert_eq!(input.counter, i32::MIN + 1);
 }
@@ -116,7 +116,7 @@ fn levels_count_rises_and_wrap() {
 #[test]
 fn a_level_passes_a_simulated_channel_by() {
     let mut simulated = channel(1, 0, 0, 0);
-    simulated.level(true);
+    simulated.set_level(true);
     assert_eq!((simulated.in_flag, simulated.counter), (false, 0));
     simulated.write_flag_reg(flag::IN);
     assert_eq!((simulated.in_flag, simulated.counter), (true, 1));
@@ -134,9 +134,9 @@ fn a_current_above_two_trips() {
     shot.write_flag_reg(flag::OUT | flag::CONTROL);
     shot.fb_timer = -1;
     shot.fb_status = false;
-    shot.current(reals::TWO);
+    shot.set_current(reals::TWO);
     assert!(shot.out_flag && shot.control && shot.act == 0);
-    shot.current(reals::TWO + 1);
+    shot.set_current(reals::TWO + 1);
     assert!(!shot.out_flag && !shot.control);
     assert_eq!((shot.act, shot.his), (error::OVERLOAD, error::OVERLOAD));
     assert_eq!((shot.fb_timer, shot.fb_status), (512, true));
@@ -147,7 +147,7 @@ fn a_current_above_two_trips() {
 fn enablebit_6_silences_the_bit_but_not_the_trip() {
     let mut silent = channel(1 << 6, 0x10, 0, 0);
     silent.write_flag_reg(flag::OUT);
-    silent.current(0x4040_0000);
+    silent.set_current(0x4040_0000);
     assert!(!silent.out_flag && silent.act == 0 && silent.his == 0);
 }
 

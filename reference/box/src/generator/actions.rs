@@ -2,6 +2,7 @@
 //! together.
 
 mod calm;
+mod corners;
 mod data;
 mod ends;
 mod images;
@@ -11,10 +12,12 @@ mod refusals;
 mod runs;
 mod samples;
 mod surveys;
+mod terminals;
 mod ticks;
 mod writes;
 
 pub use calm::*;
+pub use corners::*;
 pub use data::*;
 pub use ends::*;
 pub use images::*;
@@ -24,6 +27,7 @@ pub use refusals::*;
 pub use runs::*;
 pub use samples::*;
 pub use surveys::*;
+pub use terminals::*;
 pub use ticks::*;
 pub use writes::*;
 

@@ -21,6 +21,7 @@ pub enum Kind {
     Save,
     Tables,
     Runs,
+    Samples,
     Mixed,
 }
 
@@ -39,6 +40,7 @@ pub const KINDS: &[(&str, Kind)] = &[
     ("save", Kind::Save),
     ("tables", Kind::Tables),
     ("runs", Kind::Runs),
+    ("samples", Kind::Samples),
     ("mixed", Kind::Mixed),
 ];
 
@@ -56,6 +58,7 @@ impl Kind {
             Kind::Errors => Flavour::Errors,
             Kind::Ends => Flavour::Ends,
             Kind::Runs => Flavour::Runs,
+            Kind::Samples => Flavour::Samples,
             _ => Flavour::Plain,
         }
     }

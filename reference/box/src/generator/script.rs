@@ -5,6 +5,7 @@ use super::values::{self, Flavour};
 use crate::data::LookUp;
 use crate::image::Settings;
 use crate::player::Call;
+use crate::reals;
 use crate::registers::{Access, Digital, Register};
 use crate::CHANNELS;
 use std::fmt::Write;
@@ -14,6 +15,13 @@ const SAVE: u64 = 1_152_000;
 /// Ticks from one look at the feedback to the next.
 const LOOK: u64 = 4;
 
+/// The level and the current that a channel was last given.
+#[derive(Clone, Copy, Default)]
+struct Terminal {
+    level: bool,
+    amperes: u32,
+}
+
 pub struct Script {
     pub random: Random,
     pub flavour: Flavour,
@@ -21,8 +29,14 @@ pub struct Script {
     pub focus: Vec<u8>,
     /// The ChConfig last written to each channel.
     configs: [Option<[u8; 4]>; CHANNELS],
+    /// Each channel's last sample since power-up or reset, or OutCurrent as
+    /// written after it; what was refused is left out.
+    terminals: [Terminal; CHANNELS],
     /// The two lookup tables, as far as the writer knows them.
     tables: [LookUp; 2],
+    /// The corner of samples that came last; at first the seed, so that scripts
+    /// begin at different corners.
+    corner: usize,
     /// How many long runs of ticks may still come.
     pub long_runs: u32,
     /// The channels called since power-up, channel k at bit k−1.
@@ -39,7 +53,9 @@ impl Script {
             flavour: Flavour::Plain,
             focus: Vec::new(),
             configs: [None; CHANNELS],
+            terminals: Default::default(),
             tables: Default::default(),
+            corner: seed as usize,
             long_runs: 0,
             touched: 0,
             write_enable: false,
@@ -85,6 +101,7 @@ impl Script {
 
     fn restart(&mut self) {
         self.write_enable = false;
+        self.terminals = Default::default();
         self.ticks = 0;
     }
 
@@ -114,7 +131,7 @@ impl Script {
             (0x0D, [on @ 0..=1]) => self.write_enable = *on == 1,
             (0x03, [0xFF]) => self.restart(),
             (0x13C | 0x13D, _) => self.remember_table(usize::from(swno - 0x13C), bytes),
-            _ => self.remember_config(swno, bytes),
+            _ => self.remember_digital(swno, bytes),
         }
     }
 
@@ -131,10 +148,33 @@ impl Script {
         self.tables[usize::from(table == 2)]
     }
 
-    fn remember_config(&mut self, swno: u16, bytes: &[u8]) {
-        if let Ok(Register::Digital(index, Digital::ChConfig)) = Register::find(swno) {
-            self.configs[index] = bytes.try_into().ok();
+    fn remember_digital(&mut self, swno: u16, bytes: &[u8]) {
+        let four: Option<[u8; 4]> = bytes.try_into().ok();
+        match (Register::find(swno), four) {
+            (Ok(Register::Digital(index, Digital::ChConfig)), four) => self.configs[index] = four,
+            (Ok(Register::Digital(index, Digital::OutCurrent)), Some(four)) => {
+                let level = self.terminals[index].level;
+                self.remember_sample(index, level, u32::from_be_bytes(four));
+            }
+            _ => {}
         }
+    }
+
+    fn remember_sample(&mut self, index: usize, level: bool, amperes: u32) {
+        match self.terminals.get_mut(index) {
+            Some(terminal) if reals::is_finite(amperes) => *terminal = Terminal { level, amperes },
+            _ => {}
+        }
+    }
+
+    /// The level of a channel's last sample.
+    fn last_level(&self, channel: u8) -> bool {
+        self.terminals[usize::from(channel) - 1].level
+    }
+
+    /// The current of a channel's last sample, or as written after it.
+    fn last_current(&self, channel: u8) -> u32 {
+        self.terminals[usize::from(channel) - 1].amperes
     }
 
     /// The ChConfig last written to a channel.
@@ -161,12 +201,38 @@ impl Script {
         self.write_with_enable(swno, &word.to_be_bytes());
     }
 
-    pub fn level(&mut self, channel: u8, on: bool) {
-        self.calls.push(Call::Level(channel, on));
+    /// Change 3: a level and a current at once.
+    pub fn sample(&mut self, channel: u8, level: bool, amperes: u32) {
+        self.calls.push(Call::Sample(channel, level, amperes));
+        let index = usize::from(channel).wrapping_sub(1);
+        self.remember_sample(index, level, amperes);
     }
 
-    pub fn current(&mut self, channel: u8, amperes: u32) {
-        self.calls.push(Call::Current(channel, amperes));
+    /// A number below `corners`, another each time until all have come. A step
+    /// of 35 leads through any number of them that 5 and 7 don't divide.
+    pub fn next_corner(&mut self, corners: usize) -> usize {
+        self.corner = (self.corner % corners + 35) % corners;
+        self.corner
+    }
+
+    /// A sample for the sake of its level: the current is mostly the last one,
+    /// or 0 where that trips; now and then it is 0 or any.
+    pub fn sample_level(&mut self, channel: u8, level: bool) {
+        let last = self.last_current(channel);
+        let amperes = match self.random.below(16) {
+            0 => values::current(&mut self.random),
+            1 | 2 => 0,
+            _ if reals::greater(last, reals::TWO) => 0,
+            _ => last,
+        };
+        self.sample(channel, level, amperes);
+    }
+
+    /// A sample for the sake of its current: the level is mostly the last one.
+    pub fn sample_current(&mut self, channel: u8, amperes: u32) {
+        let changed = self.random.chance(1, 4);
+        let level = self.last_level(channel) != changed;
+        self.sample(channel, level, amperes);
     }
 
     pub fn lookup(&mut self, table: u8, x: u32) {

@@ -6,7 +6,7 @@ mod running;
 use super::actions::{self as act, Action};
 use super::kinds::Kind;
 use holding::{ENDS, IMAGES, REFUSALS, REGISTERS, RESET, SAVE, TABLES};
-use running::{CURRENTS, ERRORS, FEEDBACK, RUNS, TICKS, WATCHDOG};
+use running::{CURRENTS, ERRORS, FEEDBACK, RUNS, SAMPLES, TICKS, WATCHDOG};
 
 /// Actions with their weights.
 pub type Table = &'static [(u64, Action)];
@@ -27,6 +27,7 @@ impl Kind {
             Kind::Save => SAVE,
             Kind::Tables => TABLES,
             Kind::Runs => RUNS,
+            Kind::Samples => SAMPLES,
             Kind::Mixed => MIXED,
         }
     }
@@ -59,5 +60,6 @@ pub const PHASES: &[(u64, Kind)] = &[
     (1, Kind::Save),
     (2, Kind::Tables),
     (2, Kind::Runs),
+    (3, Kind::Samples),
     (2, Kind::Mixed),
 ];

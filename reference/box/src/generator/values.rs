@@ -1,13 +1,15 @@
 //! Random values: counts, Reals, configurations, lookup tables and images.
 
+mod currents;
 mod lookups;
 mod numbers;
 mod operating;
 mod settings;
 mod suiting;
 
+pub use currents::{current, quiet_current, refused_current, sample_current, tripping_current};
 pub use lookups::{table, x_for};
-pub use numbers::{current, end_count, end_real, limit, signed_time, small_count, time};
+pub use numbers::{end_count, end_real, limit, signed_time, small_count, time};
 pub use operating::{last_count, operating_time, refused_operating_time};
 pub use settings::{config, module_config, settings};
 pub use suiting::{flag_reg, suiting};
@@ -22,4 +24,5 @@ pub enum Flavour {
     Errors,
     Ends,
     Runs,
+    Samples,
 }

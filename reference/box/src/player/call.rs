@@ -42,8 +42,8 @@ pub enum Call {
     Store(usize),
     Read(u16, Vec<u8>),
     Write(u16, Vec<u8>),
-    Level(u8, bool),
-    Current(u8, u32),
+    /// Change 3: a channel, its level and its current.
+    Sample(u8, bool, u32),
     Tick(u32),
     /// Change 1: a table and X.
     Lookup(u8, u32),
@@ -68,8 +68,10 @@ impl Call {
             }
             (b"read", [swno, lent]) => Ok(Call::Read(swno_of(swno)?, bytes(lent)?)),
             (b"write", [swno, value]) => Ok(Call::Write(swno_of(swno)?, bytes(value)?)),
-            (b"level", [channel, on]) => Ok(Call::Level(small(channel)?, bit(on)?)),
-            (b"current", [channel, real]) => Ok(Call::Current(small(channel)?, real_of(real)?)),
+            (b"sample", [channel, level, real]) => {
+                let (channel, level) = (small(channel)?, bit(level)?);
+                Ok(Call::Sample(channel, level, real_of(real)?))
+            }
             (b"lookup", [table, real]) => Ok(Call::Lookup(small(table)?, real_of(real)?)),
             (b"tick", []) => Ok(Call::Tick(1)),
             (b"tick", [count]) => {
@@ -95,8 +97,9 @@ impl Call {
                 Reply::Read(device.read(*swno, &mut buffer), buffer)
             }
             Call::Write(swno, value) => Reply::Write(device.write(*swno, value)),
-            Call::Level(channel, on) => Reply::Level(device.level(*channel, *on)),
-            Call::Current(channel, real) => Reply::Current(device.current(*channel, *real)),
+            Call::Sample(channel, level, real) => {
+                Reply::Sample(device.sample(*channel, *level, *real))
+            }
             Call::Tick(count) => {
                 for _ in 0..*count {
                     device.tick();
@@ -119,7 +122,7 @@ impl Call {
     pub fn channel(&self) -> Option<u16> {
         match self {
             Call::Read(swno, _) | Call::Write(swno, _) => Some(swno >> 4),
-            Call::Level(channel, _) | Call::Current(channel, _) => Some(u16::from(*channel)),
+            Call::Sample(channel, ..) => Some(u16::from(*channel)),
             Call::Power(_) | Call::Store(_) | Call::Tick(_) | Call::Lookup(..) => None,
         }
     }
@@ -137,8 +140,10 @@ impl fmt::Display for Call {
             Call::Store(length) => write!(formatter, "store {length}"),
             Call::Read(swno, lent) => write!(formatter, "read {swno:x} {}", hexadecimal(lent)),
             Call::Write(swno, value) => write!(formatter, "write {swno:x} {}", hexadecimal(value)),
-            Call::Level(channel, on) => write!(formatter, "level {channel} {}", u8::from(*on)),
-            Call::Current(channel, real) => write!(formatter, "current {channel} {real:08x}"),
+            Call::Sample(channel, level, real) => {
+                let level = u8::from(*level);
+                write!(formatter, "sample {channel} {level} {real:08x}")
+            }
             Call::Tick(1) => write!(formatter, "tick"),
             Call::Tick(count) => write!(formatter, "tick {count}"),
             Call::Lookup(table, x) => write!(formatter, "lookup {table} {x:08x}"),
@@ -147,8 +152,8 @@ impl fmt::Display for Call {
 }
 
 fn is_name(word: &[u8]) -> bool {
-    let names: [&[u8]; 8] = [
-        b"power", b"store", b"read", b"write", b"level", b"current", b"tick", b"lookup",
+    let names: [&[u8]; 7] = [
+        b"power", b"store", b"read", b"write", b"sample", b"tick", b"lookup",
     ];
     names.contains(&word)
 }
@@ -242,8 +247,8 @@ mod tests {
             Call::Store(886),
             Call::Read(0x11F, vec![]),
             Call::Write(0xFFFF, vec![0xFE]),
-            Call::Level(255, true),
-            Call::Current(16, 0x0000_0001),
+            Call::Sample(255, true, 0x0000_0001),
+            Call::Sample(16, false, 0xFF80_0000),
             Call::Tick(1),
             Call::Tick(1_152_000),
             Call::Lookup(255, 0x0000_000A),
@@ -258,11 +263,12 @@ mod tests {
         assert_eq!(Call::Read(0x11F, vec![]).channel(), Some(17));
         assert_eq!(Call::Write(0x120, vec![]).channel(), Some(18));
         assert_eq!(Call::Write(0x00D, vec![1]).channel(), Some(0));
-        assert_eq!(Call::Level(200, true).channel(), Some(200));
-        assert_eq!(Call::Current(16, 0).channel(), Some(16));
+        assert_eq!(Call::Sample(200, true, 0).channel(), Some(200));
+        assert_eq!(Call::Sample(16, false, 0x7FC0_0000).channel(), Some(16));
         assert_eq!(Call::Tick(1).channel(), None);
         assert_eq!(Call::Write(0x13D, vec![]).channel(), Some(19));
         assert_eq!(Call::Lookup(1, 0).channel(), None);
         assert!(Call::Read(0x130, vec![]).is_wire() && !Call::Lookup(1, 0).is_wire());
+        assert!(!Call::Sample(1, true, 0).is_wire());
     }
 }

@@ -12,8 +12,8 @@ pub trait Device {
     fn store(&self, buffer: &mut [u8]) -> (u8, usize);
     fn read(&mut self, swno: u16, buffer: &mut [u8]) -> Answer;
     fn write(&mut self, swno: u16, bytes: &[u8]) -> Answer;
-    fn level(&mut self, channel: u8, on: bool) -> u8;
-    fn current(&mut self, channel: u8, amperes: Real) -> u8;
+    /// Change 3: a level and a current at once.
+    fn sample(&mut self, channel: u8, level: bool, amperes: Real) -> u8;
     fn tick(&mut self);
     /// Change 1: gives its number and the Real, 0 where it is refused.
     fn lookup(&self, table: u8, x: Real) -> (u8, Real);
@@ -39,12 +39,8 @@ impl Device for ChannelBox {
         ChannelBox::write(self, swno, bytes)
     }
 
-    fn level(&mut self, channel: u8, on: bool) -> u8 {
-        ChannelBox::level(self, channel, on)
-    }
-
-    fn current(&mut self, channel: u8, amperes: Real) -> u8 {
-        ChannelBox::current(self, channel, amperes)
+    fn sample(&mut self, channel: u8, level: bool, amperes: Real) -> u8 {
+        ChannelBox::sample(self, channel, level, amperes)
     }
 
     fn tick(&mut self) {

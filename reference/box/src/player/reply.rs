@@ -11,8 +11,7 @@ pub enum Reply {
     Store(u8, usize, Vec<u8>),
     Read(Answer, Vec<u8>),
     Write(Answer),
-    Level(u8),
-    Current(u8),
+    Sample(u8),
     Tick,
     Lookup(u8, Real),
 }
@@ -34,8 +33,7 @@ impl fmt::Display for Reply {
                 )
             }
             Reply::Write(answer) => write!(formatter, "write {}", numbers(*answer)),
-            Reply::Level(number) => write!(formatter, "level {number}"),
-            Reply::Current(number) => write!(formatter, "current {number}"),
+            Reply::Sample(number) => write!(formatter, "sample {number}"),
             Reply::Tick => write!(formatter, "tick 0"),
             Reply::Lookup(number, real) => write!(formatter, "lookup {number} {real:08x}"),
         }

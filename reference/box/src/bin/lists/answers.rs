@@ -28,7 +28,7 @@ impl Compared<'_> {
             ("read", [number, length, _, _, buffer]) => (number, Some(length), Some(buffer), None),
             ("write", [number, length, _, _]) => (number, Some(length), None, None),
             ("store", [number, length, buffer]) => (number, Some(length), Some(buffer), None),
-            ("power" | "level" | "current" | "tick", [number]) => (number, None, None, None),
+            ("power" | "sample" | "tick", [number]) => (number, None, None, None),
             ("lookup", [number, real]) => (number, None, None, Some(real)),
             _ => return None,
         };
@@ -66,11 +66,8 @@ pub fn in_words(line: &str) -> String {
         Ok(Some(Call::Write(swno, _))) => {
             format!("the write of {} ({line})", register(swno))
         }
-        Ok(Some(Call::Level(channel, _))) => {
-            format!("the level for channel {channel} ({line})")
-        }
-        Ok(Some(Call::Current(channel, _))) => {
-            format!("the current for channel {channel} ({line})")
+        Ok(Some(Call::Sample(channel, ..))) => {
+            format!("the sample for channel {channel} ({line})")
         }
         Ok(Some(Call::Lookup(table, _))) => {
             format!("the lookup in table {table} ({line})")

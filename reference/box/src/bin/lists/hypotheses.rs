@@ -125,18 +125,28 @@ mod tests {
     #[test]
     fn calls_for_strangers_are_struck() {
         let strangers = asked(
-            "level 3 1, tick, read 10 00",
-            "tick, current 4 00000000, read 10 00",
+            "sample 3 1 00000000, tick, read 10 00",
+            "tick, sample 4 0 40400000, read 10 00",
         );
         assert_eq!(strangers, Ok((3..=16).collect()));
         for (first, second) in [
-            ("level 3 1", "level 17 1"),
+            ("sample 3 1 00000000", "sample 17 1 00000000"),
             ("tick", "tick, tick"),
             ("read 10 00", "read 10 01"),
-            ("level 1 1, level 2 1", "level 2 1, level 1 1"),
-            ("level 2 1", ""),
+            (
+                "sample 1 1 00000000, sample 2 1 00000000",
+                "sample 2 1 00000000, sample 1 1 00000000",
+            ),
+            ("sample 2 1 00000000", ""),
+            ("sample 1 1 00000000", "sample 1 0 00000000"),
+            ("sample 1 1 00000000", "sample 1 1 80000000"),
+            ("sample 2 1 7f800000", "sample 2 1 ff800000"),
+            ("sample 0 1 00000000", ""),
+            ("sample 17 1 00000000", ""),
+            ("sample 17 1 00000000", "sample 17 0 00000000"),
+            ("sample 255 1 7fc00000", "sample 254 1 7fc00000"),
             ("read 0 00", ""),
-            ("read 110 00", "level 3 1"),
+            ("read 110 00", "sample 3 1 00000000"),
             ("read 130 00", "write 130 00"),
             ("read 13c 00", ""),
             ("read 120 00", ""),
@@ -152,25 +162,25 @@ mod tests {
     #[test]
     fn an_accepted_write_makes_an_acquaintance() {
         let write = "write d 01, write 19 00100003";
-        let strangers = asked(write, &format!("{write}, level 4 1"));
+        let strangers = asked(write, &format!("{write}, sample 4 1 00000000"));
         assert_eq!(strangers, Ok((4..=16).collect()));
-        assert!(asked(write, &format!("level 3 1, {write}")).is_err());
+        assert!(asked(write, &format!("sample 3 1 00000000, {write}")).is_err());
         let refused = "write 19 00100003";
-        let strangers = asked(refused, &format!("level 3 1, {refused}"));
+        let strangers = asked(refused, &format!("sample 3 1 00000000, {refused}"));
         assert_eq!(strangers, Ok((3..=16).collect()));
     }
 
     #[test]
     fn the_same_ticks_must_have_a_wire_call() {
-        assert!(asked("read 30 -, tick", "level 4 0, write 4e 00, tick").is_ok());
+        assert!(asked("read 30 -, tick", "sample 4 0 00000000, write 4e 00, tick").is_ok());
         assert!(asked("tick, read 30 00", "tick").is_ok());
         assert!(asked("write 130 -, read 30 00, tick", "write 130 -, tick").is_ok());
         let lookup = "lookup 3 00000000, tick";
-        assert!(asked(lookup, &format!("level 3 1, {lookup}")).is_ok());
+        assert!(asked(lookup, &format!("sample 3 1 00000000, {lookup}")).is_ok());
         assert!(asked(lookup, &format!("read 30 00, {lookup}")).is_err());
         for (first, second) in [
             ("read 30 00, tick", "tick"),
-            ("read 30 00, tick", "level 3 1, tick"),
+            ("read 30 00, tick", "sample 3 1 00000000, tick"),
             ("read 30 00, tick, tick", "tick, read 30 00, tick"),
             ("tick 2, tick", "tick 2, read 30 00, tick"),
         ] {

@@ -28,6 +28,7 @@ mod pair;
 mod record;
 mod runs;
 mod second;
+mod source;
 
 use check::{List, Played};
 use own::Own;

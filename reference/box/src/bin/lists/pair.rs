@@ -1,6 +1,6 @@
 //! A pair of lists, drawn at random so that "Two lists" speaks of it.
 
-use crate::{runs, second};
+use crate::{runs, second, source};
 use reference_box::generator::actions::{self as act, Action};
 use reference_box::generator::random::Random;
 use reference_box::generator::script::Script;
@@ -27,9 +27,13 @@ const ACTIONS: &[(u64, Action)] = &[
     (9, act::tick),
     (8, act::few_ticks),
     (2, act::some_ticks),
-    (8, act::level),
+    (7, act::sample_level),
     (2, act::pulses),
-    (5, act::current),
+    (4, act::sample_current),
+    (1, act::sample_any),
+    (1, act::trip_at_once),
+    (1, act::refused_change),
+    (1, act::sample_no_channel),
     (2, act::overload),
     (1, act::trip_in_tick),
     (1, act::out_flags_after_overload),
@@ -66,6 +70,7 @@ const ACTIONS: &[(u64, Action)] = &[
     (1, act::time_over),
     (3, act::refused_read),
     (4, act::refused_write),
+    (1, source::refused_here),
     (3, act::refused_sample),
     (1, act::refused_between_ticks),
     (2, act::lookup),
@@ -206,7 +211,7 @@ fn watch(script: &mut Script, channel: u8, others: &[u8]) {
     script.write(flag_reg, &[on]);
     script.focus = others.to_vec();
     for _ in 0..script.random.within(2, 8) {
-        let call = script.random.weighted(second::LONE_CALLS);
+        let call = script.random.weighted(source::LONE_CALLS);
         call(script);
         let ticks = script.random.within(1, 5);
         script.tick(ticks);
@@ -223,7 +228,7 @@ fn go_through_save(script: &mut Script, channel: u8, others: &[u8]) {
     }
     script.write(0x0D, &[1]);
     script.write(u16::from(channel) * 0x10 + 9, &[0, 0x10, 0, 0]);
-    script.level(channel, true);
+    script.sample(channel, true, 0);
     script.focus = vec![channel];
     script.long_runs = 1;
     act::save(script);

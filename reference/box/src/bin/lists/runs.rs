@@ -38,7 +38,7 @@ pub fn pump_runs(script: &mut Script, channel: u8, others: &[u8]) {
 /// made TRUE, be it wired or simulated, and OperatingTime is read before four
 /// ticks and after each. Of a count below 16777216 each step shows.
 pub fn show_quarters(script: &mut Script, channel: u8) -> Vec<Call> {
-    script.level(channel, true);
+    script.sample(channel, true, 0);
     script.write(u16::from(channel) * 0x10, &[0x40]);
     script.read_register(operating_time(channel));
     for _ in 0..4 {

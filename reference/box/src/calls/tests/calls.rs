@@ -31,8 +31,11 @@ fn a_write_clears_act_bit_3_too() {
 fn samples_and_ticks_neither_clear_nor_preset() {
     let mut bench = with_watchdog(8);
     bench.ticks(1);
-    bench.device.level(1, true);
-    bench.device.current(1, 0);
+    for amperes in [0, reals::TWO + 1] {
+        assert_eq!(bench.device.sample(1, true, amperes), 0);
+        assert_eq!(bench.device.sample(17, true, amperes), 8);
+    }
+    assert_eq!(bench.device.sample(1, false, reals::NAN), 9);
     bench.device.store(&mut [0; image::LENGTH]);
     bench.device.lookup(1, 0);
     assert_eq!((bench.device.act, bench.device.wd_timer), (RUN_OUT, 0));

@@ -116,6 +116,6 @@ fn registers_2_4_and_5_are_kept_while_write_enable_is_true() {
     let kept = bench.device.channels[0].kept;
     assert_eq!((kept.counter, kept.operating), (1, 8));
     assert_eq!(kept.user_bytes, [1; 4]);
-    bench.device.level(1, true);
+    bench.device.sample(1, true, 0);
     assert_eq!(bench.device.channels[0].kept.counter, 1);
 }

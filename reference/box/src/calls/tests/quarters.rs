@@ -12,7 +12,7 @@ fn with_quarters(quarters: u8, simulated: bool) -> Bench {
     let mut bench = with_watchdog(2560);
     bench.configure(1, [u8::from(simulated), 0x20, 0, 0]);
     bench.write_word(0x14, reals::from_operating_count(COUNT));
-    bench.device.level(1, true);
+    bench.device.sample(1, true, 0);
     bench.write(0x10, &[flag::IN]);
     bench.ticks(u32::from(quarters));
     let channel = &bench.device.channels[0];
@@ -24,7 +24,7 @@ fn with_quarters(quarters: u8, simulated: bool) -> Bench {
 /// count goes on when four are there.
 fn shown(bench: &mut Bench) -> u32 {
     let before = bench.read_word(0x14);
-    bench.device.level(1, true);
+    bench.device.sample(1, true, 0);
     bench.write(0x111, &[0xFF, 0xFF]);
     for ticks in 1..=4 {
         bench.ticks(1);
@@ -153,7 +153,7 @@ fn every_other_write_keeps_them() {
             let shown = shown_after(|bench| {
                 bench.write(0x0D, &[enable]);
                 bench.write(swno, &bytes);
-                bench.device.level(1, true);
+                bench.device.sample(1, true, 0);
                 bench.write(0x111, &[0xFF, 0xFF]);
             });
             assert_eq!(shown, KEPT, "{enable} {swno:x}");
@@ -190,14 +190,13 @@ fn reads_keep_them() {
 #[test]
 fn samples_lookups_and_stores_keep_them() {
     let samples = |bench: &mut Bench| {
-        for on in [true, false, true, false] {
-            assert_eq!(bench.device.level(1, on), 0);
-        }
         for amperes in [0, reals::ONE, reals::TWO + 1, 0] {
-            assert_eq!(bench.device.current(1, amperes), 0);
+            for on in [true, false, true, false] {
+                assert_eq!(bench.device.sample(1, on, amperes), 0);
+            }
         }
-        assert_eq!(bench.device.current(1, reals::NAN), 9);
-        assert_eq!(bench.device.level(17, true), 8);
+        assert_eq!(bench.device.sample(1, true, reals::NAN), 9);
+        assert_eq!(bench.device.sample(17, true, 0), 8);
         bench.device.lookup(1, 0);
         assert_eq!(bench.device.store(&mut [0; image::LENGTH]).0, 0);
     };
@@ -208,9 +207,8 @@ fn samples_lookups_and_stores_keep_them() {
 #[test]
 fn idle_ticks_keep_them() {
     let idle = |bench: &mut Bench| {
-        bench.device.level(1, false);
+        bench.device.sample(1, false, 0x4040_0000);
         bench.write(0x111, &[0, 0]);
-        bench.device.current(1, 0x4040_0000);
         bench.ticks(333);
         assert_eq!(bench.device.act & RUN_OUT, RUN_OUT);
     };
@@ -221,7 +219,7 @@ fn idle_ticks_keep_them() {
 #[test]
 fn a_save_keeps_them() {
     let save = |bench: &mut Bench| {
-        bench.device.level(1, false);
+        bench.device.sample(1, false, 0);
         bench.write(0x111, &[0, 0]);
         bench.device.save_count = crate::tick::LAST_OF_SAVE;
         bench.ticks(1);

@@ -100,15 +100,16 @@ fn samples_have_their_own_numbers() {
     let mut bench = Bench::watchdog_off();
     let before = bench.device.clone();
     for channel in [0, 17, 255] {
-        assert_eq!(bench.device.level(channel, true), 8);
-        assert_eq!(bench.device.current(channel, 0x7FC0_0000), 8);
+        assert_eq!(bench.device.sample(channel, true, 0), 8);
+        assert_eq!(bench.device.sample(channel, true, 0x7FC0_0000), 8);
     }
     for amperes in [0x7F80_0000, 0xFF80_0000, 0x7FC0_0000, 0xFFFF_FFFF] {
-        assert_eq!(bench.device.current(1, amperes), 9);
+        assert_eq!(bench.device.sample(1, true, amperes), 9);
     }
     assert_eq!(bench.device, before);
-    assert_eq!(bench.device.current(16, 0xFF7F_FFFF), 0);
-    assert_eq!(bench.device.level(16, true), 0);
+    assert_eq!(bench.device.sample(16, false, 0xFF7F_FFFF), 0);
+    assert_eq!(bench.device.sample(16, true, 0), 0);
+    assert_eq!(bench.device.channels[15].counter, 1);
 }
 
 /// Change 1: "storing writes the long one and needs its length".

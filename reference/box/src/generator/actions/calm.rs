@@ -21,8 +21,7 @@ pub fn calm(script: &mut Script) {
             script.write_with_enable(swno + 9, &config);
         }
         script.write(swno, &[0]);
-        script.current(channel, 0);
-        script.level(channel, false);
+        script.sample(channel, false, 0);
     }
     let ticks = script.random.within(4, 8);
     script.tick(ticks);

@@ -38,7 +38,7 @@ pub fn write_end_watchdog(script: &mut Script) {
 pub fn sample_end_current(script: &mut Script) {
     let channel = script.channel();
     let real = values::end_real(&mut script.random);
-    script.current(channel, real);
+    script.sample_current(channel, real);
 }
 
 /// A counter at its end, with pulses that carry it over.
@@ -47,7 +47,7 @@ pub fn count_over(script: &mut Script) {
     let swno = u16::from(channel) * 0x10;
     script.write_word(swno + 2, 0x7FFF_FFFE);
     for on in [true, false, true, false, true] {
-        script.level(channel, on);
+        script.sample_level(channel, on);
         script.write(swno, &[u8::from(on) << 6]);
     }
     script.read(swno + 2, 4);

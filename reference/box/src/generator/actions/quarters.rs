@@ -58,7 +58,7 @@ pub fn quarters_through(script: &mut Script) {
     }
     script.read_register(swno(channel, 4));
     if script.random.chance(1, 2) {
-        script.level(channel, true);
+        script.sample_level(channel, true);
         script.write(0x111, &(1_u16 << (channel - 1)).to_be_bytes());
     }
     for _ in 0..4 {
@@ -115,7 +115,7 @@ fn current(script: &mut Script, channel: u8) {
         _ => values::current(&mut script.random),
     };
     if script.random.chance(1, 2) {
-        script.current(channel, amperes);
+        script.sample_current(channel, amperes);
     } else {
         script.write(swno(channel, 3), &amperes.to_be_bytes());
     }

@@ -179,17 +179,18 @@ pub fn refused_between_ticks(script: &mut Script) {
     }
 }
 
+/// A sample that is refused, most often: by 8, by 9, or by 8 before 9. Where
+/// only the current is bad, the level is often one that would count.
 pub fn refused_sample(script: &mut Script) {
-    let channel = script.random.pick(&[0, 17, 18, 128, 255]);
-    if script.random.chance(1, 2) {
-        return script.level(channel, true);
-    }
+    let none = script.random.pick(&[0, 17, 18, 128, 255]);
     let other = script.channel();
-    let channel = script.random.pick(&[channel, other]);
-    let amperes = script
-        .random
-        .pick(&[0x7F80_0000, 0xFF80_0000, 0x7FC0_0000, 0xFFFF_FFFF, 0]);
-    script.current(channel, amperes);
+    let channel = script.random.pick(&[none, none, other]);
+    let amperes = match script.random.below(3) {
+        0 => values::current(&mut script.random),
+        _ => values::refused_current(&mut script.random),
+    };
+    let level = script.random.chance(3, 4);
+    script.sample(channel, level, amperes);
 }
 
 pub fn refused_store(script: &mut Script) {

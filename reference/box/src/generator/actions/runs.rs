@@ -9,13 +9,13 @@ fn operating_time(channel: u8) -> u16 {
     u16::from(channel) * 0x10 + 4
 }
 
-/// Makes InFlag of a channel TRUE or FALSE: by a level, which a simulated one
-/// passes by, and by FlagReg or InFlags, which a wired one does; now and then in
-/// one way alone.
+/// Makes InFlag of a channel TRUE or FALSE: by a sample, whose level a simulated
+/// input drops, and by FlagReg or InFlags, whose bit a wired one drops; now and
+/// then in one way alone.
 pub(super) fn set_in_flag(script: &mut Script, channel: u8, on: bool) {
     let way = script.random.below(8);
     if way >= 2 {
-        script.level(channel, on);
+        script.sample_level(channel, on);
     }
     match way {
         0 | 3 => write_in_flags_with(script, channel, on),
@@ -228,7 +228,7 @@ pub fn save_in_quarters(script: &mut Script) {
     script.write(0x0D, &[0]);
     script.write(0x111, &[0, 0]);
     for &channel in &channels {
-        script.level(channel, false);
+        script.sample(channel, false, 0);
         if script.random.chance(3, 4) {
             let time = values::operating_time(&mut script.random);
             script.write(operating_time(channel), &time.to_be_bytes());
@@ -237,7 +237,7 @@ pub fn save_in_quarters(script: &mut Script) {
     let long = script.ticks_to_save().saturating_sub(7).max(1);
     script.tick(long);
     for (place, &channel) in channels.iter().enumerate() {
-        script.level(channel, true);
+        script.sample_level(channel, true);
         script.write(u16::from(channel) * 0x10, &[0x40]);
         script.tick(if place < 3 { 1 } else { 4 });
     }

@@ -75,31 +75,6 @@ const END_COUNTS: &[u32] = &[
     0xFFFF_FFFF,
 ];
 
-/// Currents around every limit that a rule looks at.
-const CURRENTS: &[u32] = &[
-    0x0000_0000,
-    0x8000_0000,
-    0x3D4C_CCCD, // 0.05
-    0x3DCC_CCCC,
-    0x3DCC_CCCD, // 0.1
-    0x3DCC_CCCE,
-    0x3E7F_FFFF,
-    0x3E80_0000, // 0.25
-    0x3E80_0001,
-    0x3EFF_FFFF,
-    0x3F00_0000, // 0.5
-    0x3F00_0001,
-    0x3F7F_FFFF,
-    0x3F80_0000, // 1
-    0x3F80_0001,
-    0x3FC0_0000, // 1.5
-    0xBF80_0000,
-    0x4000_0000, // 2
-];
-
-/// Currents above 2, which trip.
-const TRIPPING: &[u32] = &[0x4000_0001, 0x4040_0000, 0x7F7F_FFFF];
-
 /// MinCurrent and MaxCurrent.
 const LIMITS: &[u32] = &[
     0x0000_0000,
@@ -141,14 +116,6 @@ pub fn time(random: &mut Random) -> u32 {
 pub fn signed_time(random: &mut Random) -> u32 {
     let sign = u32::from(random.chance(1, 3)) << 31;
     sign | time(random)
-}
-
-pub fn current(random: &mut Random) -> u32 {
-    match random.below(10) {
-        0 => random.pick(TRIPPING),
-        1 => 0x3D00_0000 + random.below(0x0300_0000) as u32,
-        _ => random.pick(CURRENTS),
-    }
 }
 
 pub fn limit(random: &mut Random) -> u32 {

@@ -10,7 +10,7 @@ use crate::image::Settings;
 
 fn functions(random: &mut Random, flavour: Flavour) -> u8 {
     let plain = match flavour {
-        Flavour::Feedback | Flavour::Currents => 6,
+        Flavour::Feedback | Flavour::Currents | Flavour::Samples => 6,
         _ => 2,
     };
     random.weighted(&[(1, 0), (plain, 0x10), (3, 0x20), (3, 0x30), (2, 0x50)])
@@ -21,6 +21,7 @@ fn enable(random: &mut Random, flavour: Flavour) -> u8 {
         Flavour::Feedback => [(2, 0), (2, 2), (1, 5), (1, 6), (1, 7)],
         Flavour::Currents => [(2, 0), (1, 2), (6, 5), (3, 6), (1, 7)],
         Flavour::Errors => [(7, 0), (8, 2), (2, 5), (1, 6), (1, 7)],
+        Flavour::Samples => [(2, 0), (4, 2), (2, 5), (2, 6), (1, 7)],
         _ => [(4, 0), (2, 2), (4, 5), (2, 6), (1, 7)],
     };
     let drawn = chances
@@ -35,7 +36,11 @@ fn enable(random: &mut Random, flavour: Flavour) -> u8 {
 }
 
 fn reference(random: &mut Random, own: u8, focus: &[u8], flavour: Flavour) -> u8 {
-    let none = if flavour == Flavour::Feedback { 2 } else { 5 };
+    let none = match flavour {
+        Flavour::Feedback => 2,
+        Flavour::Samples => 4,
+        _ => 5,
+    };
     match random.weighted(&[(none, 0), (1, 1), (5, 2), (1, 3)]) {
         0 => 0,
         1 => own,

@@ -1,7 +1,8 @@
 //! Bytes that suit a register.
 
+use super::currents::current;
 use super::lookups::{finite, table};
-use super::numbers::{count, current, limit, signed_time, time};
+use super::numbers::{count, limit, signed_time, time};
 use super::settings::{config, module_config, wd_preset};
 use super::Flavour;
 use crate::generator::random::Random;

@@ -23,7 +23,7 @@ fn step_5_looks_at_out_flag_not_output() {
 fn looks_come_every_fourth_tick() {
     let mut bench = Bench::watchdog_off();
     bench.configure(1, [0, 0x10, 2, 0]);
-    bench.device.level(2, true);
+    bench.device.sample(2, true, 0);
     let mut seen = Vec::new();
     for tick in 1..=13 {
         bench.device.channels[0].fb_status = false;

@@ -6,7 +6,7 @@ use super::*;
 /// tick with InFlag TRUE.
 fn counts(bench: &mut Bench, pattern: &str) -> Vec<u32> {
     let mut after_tick = |level: char| {
-        bench.device.level(1, level == '1');
+        bench.device.sample(1, level == '1', 0);
         bench.ticks(1);
         bench.device.channels[0].operating
     };
@@ -69,19 +69,19 @@ fn a_look_adds_a_quarter_and_no_more() {
 fn in_flag_is_that_of_the_tick() {
     let mut bench = Bench::watchdog_off();
     for _ in 0..20 {
-        bench.device.level(1, true);
-        bench.device.level(1, false);
+        bench.device.sample(1, true, 0);
+        bench.device.sample(1, false, 0);
         bench.ticks(1);
-        bench.device.level(1, true);
-        bench.device.level(1, false);
+        bench.device.sample(1, true, 0);
+        bench.device.sample(1, false, 0);
     }
     let channel = &bench.device.channels[0];
     assert_eq!((channel.operating, channel.quarters), (0, 0));
     assert_eq!(channel.counter, 40);
     for _ in 0..4 {
-        bench.device.level(1, true);
+        bench.device.sample(1, true, 0);
         bench.ticks(1);
-        bench.device.level(1, false);
+        bench.device.sample(1, false, 0);
     }
     assert_eq!(bench.device.channels[0].operating, 1);
 }
@@ -90,7 +90,7 @@ fn in_flag_is_that_of_the_tick() {
 fn a_simulated_in_flag_counts_too() {
     let mut bench = Bench::watchdog_off();
     bench.configure(1, [1, 0, 0, 0]);
-    bench.device.level(1, true);
+    bench.device.sample(1, true, 0);
     bench.ticks(4);
     assert_eq!(bench.device.channels[0].operating, 0);
     bench.write(0x10, &[flag::IN]);
@@ -107,7 +107,7 @@ fn a_simulated_in_flag_counts_too() {
 fn each_channel_has_its_own_quarters() {
     let mut bench = Bench::watchdog_off();
     for channel in 1..=16 {
-        bench.device.level(channel, true);
+        bench.device.sample(channel, true, 0);
         bench.ticks(1);
     }
     let quarters = bench.device.channels.map(|channel| channel.quarters);
@@ -120,7 +120,7 @@ fn each_channel_has_its_own_quarters() {
 #[test]
 fn quarters_do_not_show_in_operating_time() {
     let mut bench = Bench::watchdog_off();
-    bench.device.level(1, true);
+    bench.device.sample(1, true, 0);
     for expected in [0, 0, 0, 0x3E00_0000, 0x3E00_0000] {
         bench.ticks(1);
         assert_eq!(bench.read_word(0x14), expected);
@@ -131,7 +131,7 @@ fn quarters_do_not_show_in_operating_time() {
 /// some quarters, with InFlag TRUE.
 fn near_save(before: u32, quarters: u8) -> Bench {
     let mut bench = Bench::watchdog_off();
-    bench.device.level(1, true);
+    bench.device.sample(1, true, 0);
     bench.device.save_count = LAST_OF_SAVE - before;
     bench.device.channels[0].quarters = quarters;
     bench

@@ -54,7 +54,7 @@ fn switched_off_the_watchdog_does_nothing() {
 #[test]
 fn counts_are_kept_every_1152000th_tick() {
     let mut bench = Bench::watchdog_off();
-    bench.device.level(16, true);
+    bench.device.sample(16, true, 0);
     bench.write(0x15, &[1, 2, 3, 4]);
     bench.ticks(LAST_OF_SAVE);
     assert_eq!(bench.device.channels[15].kept, Kept::default());
@@ -69,7 +69,7 @@ fn counts_are_kept_every_1152000th_tick() {
 fn a_higher_save_count_acts_as_the_last() {
     for count in [LAST_OF_SAVE, LAST_OF_SAVE + 1, u32::MAX] {
         let mut bench = Bench::watchdog_off();
-        bench.device.level(1, true);
+        bench.device.sample(1, true, 0);
         bench.device.save_count = count;
         bench.ticks(1);
         assert_eq!(bench.device.channels[0].kept.counter, 1);

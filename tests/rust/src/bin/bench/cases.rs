@@ -24,8 +24,7 @@ pub enum Work {
     Tick,
     Read(u16),
     Write(u16, &'static [u8]),
-    Level,
-    Current,
+    Sample,
     LookUp,
     PowerUp,
     Store,
@@ -50,8 +49,7 @@ pub const CASES: &[(&str, Start, Work)] = &[
         Start::Busy,
         Work::Write(0x19, &DUTY_CYCLE),
     ),
-    ("level, alternating", Start::Busy, Work::Level),
-    ("current", Start::Busy, Work::Current),
+    ("sample, level alternating", Start::Busy, Work::Sample),
     ("lookup, in the middle", Start::Busy, Work::LookUp),
     ("power-up, 886 bytes", Start::Busy, Work::PowerUp),
     ("store, 886 bytes", Start::Busy, Work::Store),
@@ -121,7 +119,7 @@ pub fn prepared<S: Side>(start: Start) -> S {
     if let Start::Busy = start {
         for channel in 1..=16 {
             side.write(u16::from(channel) * 0x10, &[flag::CONTROL]);
-            side.level(channel, channel % 2 == 0);
+            side.sample(channel, channel % 2 == 0, 0.0);
         }
     }
     side
@@ -141,11 +139,8 @@ pub fn repeat<S: Side>(side: &mut S, work: Work, times: u32) {
         Work::Write(swno, bytes) => (0..times).for_each(|_| {
             side.write(black_box(swno), black_box(bytes));
         }),
-        Work::Level => (0..times).for_each(|count| {
-            side.level(black_box(4), black_box(count % 2 == 0));
-        }),
-        Work::Current => (0..times).for_each(|_| {
-            side.current(black_box(4), black_box(0.5));
+        Work::Sample => (0..times).for_each(|count| {
+            side.sample(black_box(4), black_box(count % 2 == 0), black_box(0.5));
         }),
         Work::LookUp => (0..times).for_each(|_| {
             side.look_up(black_box(1), black_box(MIDDLE));
@@ -166,8 +161,7 @@ mod tests {
             Work::Tick => module.tick(),
             Work::Read(swno) => drop(module.read(swno, &mut [0; LONGEST])?),
             Work::Write(swno, bytes) => drop(module.write(swno, bytes)?),
-            Work::Level => module.level(4, true)?,
-            Work::Current => module.current(4, 0.5)?,
+            Work::Sample => module.sample(4, true, 0.5)?,
             Work::LookUp => drop(module.look_up(1, MIDDLE)?),
             Work::PowerUp => module.power_up_again(&image(Start::Busy))?,
             Work::Store => drop(module.store(&mut [0; LENGTH])?),

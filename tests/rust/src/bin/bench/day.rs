@@ -9,8 +9,7 @@ use reference_box::registers::Register;
 #[derive(Clone, Copy)]
 pub enum Call {
     Tick,
-    Level(u8, bool),
-    Current(u8, f32),
+    Sample(u8, bool, f32),
     Read(u16),
     Write(u16, [u8; 4], u8),
 }
@@ -22,10 +21,9 @@ type Draw = fn(&mut Random) -> Call;
 /// What a day is made of, with weights.
 const MIX: &[(u64, Draw)] = &[
     (50, |_| Call::Tick),
-    (20, |random| {
-        Call::Level(channel(random), random.chance(1, 2))
+    (30, |random| {
+        Call::Sample(channel(random), random.chance(1, 2), amperes(random))
     }),
-    (10, |random| Call::Current(channel(random), amperes(random))),
     (15, |random| Call::Read(read_from(random))),
     (5, write),
 ];
@@ -83,8 +81,7 @@ pub fn play<S: Side>(side: &mut S, calls: &[Call]) {
     for call in calls {
         match *call {
             Call::Tick => side.tick(),
-            Call::Level(channel, on) => side.level(channel, on),
-            Call::Current(channel, amperes) => side.current(channel, amperes),
+            Call::Sample(channel, level, amperes) => side.sample(channel, level, amperes),
             Call::Read(swno) => side.read(swno, &mut buffer),
             Call::Write(swno, bytes, length) => side.write(swno, &bytes[..usize::from(length)]),
         }
@@ -101,8 +98,7 @@ mod tests {
     fn make(module: &mut Pd3120, call: Call) -> Result<(), Error> {
         match call {
             Call::Tick => module.tick(),
-            Call::Level(channel, on) => module.level(channel, on)?,
-            Call::Current(channel, amperes) => module.current(channel, amperes)?,
+            Call::Sample(channel, level, amperes) => module.sample(channel, level, amperes)?,
             Call::Read(swno) => drop(module.read(swno, &mut [0; 12])?),
             Call::Write(swno, bytes, length) => {
                 module.write(swno, &bytes[..usize::from(length)])?;

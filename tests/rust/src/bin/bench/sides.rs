@@ -12,8 +12,7 @@ pub trait Side: Clone + Default {
     fn store(&self, buffer: &mut [u8]);
     fn read(&mut self, swno: u16, buffer: &mut [u8]);
     fn write(&mut self, swno: u16, bytes: &[u8]);
-    fn level(&mut self, channel: u8, on: bool);
-    fn current(&mut self, channel: u8, amperes: f32);
+    fn sample(&mut self, channel: u8, level: bool, amperes: f32);
     fn look_up(&self, table: u8, x: f32);
     fn tick(&mut self);
 
@@ -46,12 +45,8 @@ impl Side for Library {
         let _ = black_box(self.0.write(swno, bytes));
     }
 
-    fn level(&mut self, channel: u8, on: bool) {
-        let _ = black_box(self.0.level(channel, on));
-    }
-
-    fn current(&mut self, channel: u8, amperes: f32) {
-        let _ = black_box(self.0.current(channel, amperes));
+    fn sample(&mut self, channel: u8, level: bool, amperes: f32) {
+        let _ = black_box(self.0.sample(channel, level, amperes));
     }
 
     fn look_up(&self, table: u8, x: f32) {
@@ -91,13 +86,8 @@ impl Side for Model {
     }
 
     #[inline(never)]
-    fn level(&mut self, channel: u8, on: bool) {
-        black_box(self.0.level(channel, on));
-    }
-
-    #[inline(never)]
-    fn current(&mut self, channel: u8, amperes: f32) {
-        black_box(self.0.current(channel, amperes.to_bits()));
+    fn sample(&mut self, channel: u8, level: bool, amperes: f32) {
+        black_box(self.0.sample(channel, level, amperes.to_bits()));
     }
 
     #[inline(never)]

@@ -1,4 +1,6 @@
 mod leaks;
+mod leaky;
+mod samples;
 
 use super::*;
 use crate::pair::Pair;
@@ -44,6 +46,15 @@ impl Files {
             first_calls,
             second_calls,
         }
+    }
+
+    /// One pair, whether or not `make` would draw it.
+    fn of_pair<D: Device>(pair: &Pair, device: impl Fn() -> D) -> Files {
+        let mut record = Record::new(Vec::new(), Vec::new(), Vec::new());
+        record.write(1, pair).expect("no failure in memory");
+        let mut files = Files::of(record, device);
+        files.own.insert_str(0, "seed 77 pairs 1\n");
+        files
     }
 
     fn made(pairs: u64) -> Files {
@@ -246,10 +257,7 @@ fn answers_must_be_as_many_as_calls_and_of_their_kind() {
 fn a_run_in_which_no_stranger_differs_fails() {
     let mut pair = Pair::draw(SEED, false);
     pair.second = pair.first.clone();
-    let mut record = Record::new(Vec::new(), Vec::new(), Vec::new());
-    record.write(1, &pair).expect("no failure in memory");
-    let mut files = Files::of(record, ChannelBox::default);
-    files.own.insert_str(0, "seed 77 pairs 1\n");
+    let files = Files::of_pair(&pair, ChannelBox::default);
     files.assert_found(&["seed 77: nothing is shown"]);
     Files::made(0).assert_found(&["nothing is shown"]);
 }

@@ -210,3 +210,67 @@ fn the_further_ticks_run_c() {
         assert_eq!(pair.quarters.len(), runs::SHOWING);
     }
 }
+
+/// The samples of a list for some channels.
+fn samples(list: &[Call], channels: &[u8]) -> Vec<Call> {
+    let sample = |call: &&Call| matches!(call, Call::Sample(..)) && is_for(call, channels);
+    list.iter().filter(sample).cloned().collect()
+}
+
+/// Change 3: c's own samples, accepted and refused, are in both lists, and so
+/// are samples for no channel; "A stranger's sample is struck as one call".
+#[test]
+fn samples_stand_in_both_lists_but_for_strangers() {
+    let none: Vec<u8> = [0].into_iter().chain(17..=255).collect();
+    let mut counts = [0; 4];
+    for seed in 0..400 {
+        let pair = Pair::draw(seed, false);
+        let both = |channels: &[u8]| {
+            let first = samples(&pair.first, channels);
+            assert_eq!(first, samples(&pair.second, channels), "{seed}");
+            first
+        };
+        let own = both(&[pair.channel]);
+        let refused =
+            |call: &Call| matches!(call, Call::Sample(_, _, real) if real >> 23 & 0xFF == 0xFF);
+        counts[0] += usize::from(own.iter().any(|call| !refused(call)));
+        counts[1] += usize::from(own.iter().any(refused));
+        counts[2] += usize::from(!both(&none).is_empty());
+        let strange = samples(&pair.first, &pair.strangers);
+        counts[3] += usize::from(strange != samples(&pair.second, &pair.strangers));
+    }
+    let [own, refused, none, strange] = counts;
+    assert!(own > 300 && refused > 40 && none > 100, "{counts:?}");
+    assert!(strange > 350, "{counts:?}");
+}
+
+/// A stranger's sample stands alone between ticks, where it is no wire call.
+#[test]
+fn strangers_samples_stand_alone_between_ticks() {
+    let has = |pair: &Pair| {
+        let stretches = pair.first.split(|call| matches!(call, Call::Tick(_)));
+        stretches.rev().skip(1).any(|stretch| {
+            !samples(stretch, &pair.strangers).is_empty() && !stretch.iter().any(Call::is_wire)
+        })
+    };
+    assert!(pairs_with(has) > 150);
+}
+
+/// In many pairs the lists differ in how many of the strangers' samples trip, in
+/// how many do not and in how many are refused.
+#[test]
+fn strangers_samples_are_of_every_sort() {
+    let sort = |call: &Call| match call {
+        Call::Sample(_, _, real) if real >> 23 & 0xFF == 0xFF => 2,
+        Call::Sample(_, _, real) if (0x4000_0001..0x7F80_0000).contains(real) => 1,
+        _ => 0,
+    };
+    for wanted in 0..3 {
+        let count = |pair: &Pair, list: &[Call]| {
+            let samples = samples(list, &pair.strangers);
+            samples.iter().filter(|call| sort(call) == wanted).count()
+        };
+        let has = |pair: &Pair| count(pair, &pair.first) != count(pair, &pair.second);
+        assert!(pairs_with(has) > 100, "{wanted}");
+    }
+}

@@ -1,11 +1,11 @@
--- `current` meets its contract. Assumes nothing.
+-- `sample` meets its contract. Assumes nothing.
 use borrow.Author.Needs.{needs}
 use mathlib.Core.Path.{refl, sym, ap}
 use Prim.Native.Nat.{ℕ}
 use lib.ListN.{getD}
 use Rattle.model.specs.State.{nothing}
-use Rattle.pd3120.proofs.current.Statement.{statement}
-use Rattle.pd3120.proofs.current.Tie as tie
+use Rattle.pd3120.proofs.sample.Statement.{statement}
+use Rattle.pd3120.proofs.sample.Tie as tie
 
 slot-requires : tie.Need-slot-requires
 slot-requires c κs = search needs
@@ -16,8 +16,8 @@ mul-ch c = search needs
 element-copy-out-ch : tie.Need-element-copy-out-ch
 element-copy-out-ch c = search needs
 
-take-current-requires : tie.Need-take-current-requires
-take-current-requires c κs = search needs
+take-requires : tie.Need-take-requires
+take-requires c κs = search needs
 
 mul-left : tie.Need-mul-left
 mul-left c = search needs
@@ -29,7 +29,7 @@ returns : tie.Need-returns
 returns c =
     let s = c .before .before .before .before .before .args in
     let at = c .before .before .before .before .slot in
-    rw (at .ensures .0) (c .before .take-current .ensures (s .t1) refl (ap (λ (i : ℕ). getD (s .t1 .channels) i nothing) (sym (at .ensures .0))))
+    rw (at .ensures .0) (c .before .take .ensures (s .t1) refl (ap (λ (i : ℕ). getD (s .t1 .channels) i nothing) (sym (at .ensures .0))))
 
-pub current-spec : {M : Type 1} → statement M
-current-spec = tie.close (tie.spec slot-requires mul-ch element-copy-out-ch take-current-requires mul-left element-set-from-left returns)
+pub sample-spec : {M : Type 1} → statement M
+sample-spec = tie.close (tie.spec slot-requires mul-ch element-copy-out-ch take-requires mul-left element-set-from-left returns)
