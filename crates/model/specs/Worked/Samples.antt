@@ -8,13 +8,13 @@ pub record SampleBoxes : Type 0 where
       (takes (sampled 1 true 0x3F80_0000) then reads 0x10 (one 0x40) past then reads 0x12 (four 0x0102_0305) past then reads 0x13 (four 0x3F80_0000) past
       then takes (sampled 1 true 0x3F80_0000) then reads 0x12 (four 0x0102_0305) past then takes (sampled 1 false 0x3F00_0000)
       then reads 0x10 (one 0x00) past then reads 0x12 (four 0x0102_0305) past then reads 0x13 (four 0x3F00_0000) past)
-  -- 2: one that trips counts its rise, and has the change rule; one that trips on a fall has it too, and counts nothing
+  -- 2: one that trips counts its rise, has the change rule, and leaves what stands in His; one that trips on a fall has the rule too, and counts nothing
   pub trips : Plays wireBox
-      (writes 0x10 (one 0x80) past then writes 0x16 (four 0x3F80_0000) past then takes (sampled 1 true 0x4000_0001) then reads 0x10 (one 0x46) present
-      then reads 0x12 (four 0x0102_0305) present then reads 0x13 (four 0x4000_0001) present then reads 0x16 (four 0x44A0_C0E0) present
-      then reads 0x1F (four 0x4000_4000) present then writes 0x10 (one 0x80) past then writes 0x16 (four 0x3F80_0000) past
-      then takes (sampled 1 false 0x4040_0000) then reads 0x10 (one 0x06) present then reads 0x12 (four 0x0102_0305) present
-      then reads 0x16 (four 0x44A0_C0E0) present)
+      (writes 0x10 (one 0x88) present then writes 0x10 (one 0x80) past then writes 0x16 (four 0x3F80_0000) past then takes (sampled 1 true 0x4000_0001)
+      then reads 0x10 (one 0x46) present then reads 0x12 (four 0x0102_0305) present then reads 0x13 (four 0x4000_0001) present
+      then reads 0x16 (four 0x44A0_C0E0) present then reads 0x1F (four 0x4100_4000) present then writes 0x10 (one 0x80) past
+      then writes 0x16 (four 0x3F80_0000) past then takes (sampled 1 false 0x4040_0000) then reads 0x10 (one 0x06) present
+      then reads 0x12 (four 0x0102_0305) present then reads 0x16 (four 0x44A0_C0E0) present)
   -- 2 with A channel 9: a simulated input leaves the level, and the current acts
   pub simulated : Plays wireBox
       (writes 0x20 (one 0x88) past then reads 0x20 (one 0x8C) past then takes (sampled 2 true 0x4040_0000) then reads 0x20 (one 0x06) present
