@@ -1,10 +1,11 @@
-//! Finds the archive of the proved library and has it linked.
+//! Finds the archives of the proved libraries and has them linked.
 
 use std::env;
 use std::path::{Path, PathBuf};
 use std::process::exit;
 
-const ARCHIVE: &str = "libpd3120_c.a";
+/// The box, and the charge above it.
+const LIBRARIES: [&str; 2] = ["pd3120_c", "charge_c"];
 
 /// The folder that PD3120_LIB names, or the one that `./pd3120 lib` fills.
 fn folder() -> PathBuf {
@@ -20,15 +21,18 @@ fn folder() -> PathBuf {
 
 fn main() {
     let folder = folder();
-    let archive = folder.join(ARCHIVE);
     println!("cargo:rerun-if-env-changed=PD3120_LIB");
-    println!("cargo:rerun-if-changed={}", archive.display());
-    if !archive.is_file() {
-        eprintln!("{} is not there.", archive.display());
-        eprintln!("Run `./pd3120 lib`, which proves and builds the library,");
-        eprintln!("or set PD3120_LIB to the absolute path of the folder that has {ARCHIVE}.");
-        exit(1);
+    for library in LIBRARIES {
+        let archive = folder.join(format!("lib{library}.a"));
+        println!("cargo:rerun-if-changed={}", archive.display());
+        if !archive.is_file() {
+            eprintln!("{} is not there.", archive.display());
+            eprintln!("Run `./pd3120 lib`, which proves and builds the libraries,");
+            eprintln!("or set PD3120_LIB to the absolute path of the folder that has");
+            eprintln!("libpd3120_c.a and libcharge_c.a.");
+            exit(1);
+        }
+        println!("cargo:rustc-link-lib=static={library}");
     }
     println!("cargo:rustc-link-search=native={}", folder.display());
-    println!("cargo:rustc-link-lib=static=pd3120_c");
 }

@@ -1,16 +1,19 @@
-//! The C boundary: the exported functions of `crates/pd3120_c`, each made safe.
-//! Every `unsafe` of this package stands here.
+//! The C boundary: the exported functions of `crates/pd3120_c`, each made safe,
+//! and in `charge` the one of `crates/charge_c`. Every `unsafe` of this package
+//! stands here.
 //!
 //! What the blocks below rest on, besides what each says of itself:
 //!
-//! - The declarations are those of `crates/pd3120_c/src/lib.rt`. A reference
-//!   goes over as a pointer, a slice as a pointer and its length, a number, a
-//!   Real and a bool as themselves.
+//! - The declarations are those of `crates/pd3120_c/src/lib.rt` and of
+//!   `crates/charge_c/src/lib.rt`. A reference goes over as a pointer, a slice
+//!   as a pointer and its length, a number, a Real and a bool as themselves.
 //! - The functions are proved to ask nothing of a caller beyond valid
 //!   references, to return, to hold no reference past their return, and to
 //!   keep nothing anywhere else.
 //! - A Rust slice's pointer is valid for its length and never null, also where
 //!   the slice is empty.
+
+pub mod charge;
 
 use std::mem::MaybeUninit;
 

@@ -1,13 +1,14 @@
-//! The PD 3120 channel box, proved, as a safe Rust type.
+//! The PD 3120 channel box, proved, as a safe Rust type; and above it the
+//! [`charge`](mod@charge) for water.
 //!
 //! The box is the Rattle library of this repository: every call does what
 //! document 01 and Changes 1 to 3 of document 02 say, for any box, call and
 //! buffer, and this is proved. [`Pd3120`] reaches it through its C boundary. That
 //! this package declares the boundary as it is, no proof says; its tests and
-//! `tests/rust` compare it.
+//! `tests/rust` compare it. The same holds of the charge and Change 4.
 //!
-//! `./pd3120 lib` builds the library's archive, which is linked in. PD3120_LIB
-//! can name another folder that has it.
+//! `./pd3120 lib` builds the archives of both libraries, which are linked in.
+//! PD3120_LIB can name another folder that has them.
 //!
 //! ```
 //! use pd3120::{Pd3120, Refusal};
@@ -31,10 +32,12 @@
 
 #[allow(unsafe_code)]
 mod boundary;
+pub mod charge;
 mod code;
 mod error;
 pub mod table;
 
+pub use charge::{charge, Block, ChargeRefusal, Tariff};
 pub use error::{Error, Refusal};
 pub use table::Pair;
 

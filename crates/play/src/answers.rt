@@ -1,10 +1,14 @@
 // The line that a call is answered with.
 ghost use Prim.Native.Nat.{_≤_};
 ghost use lib.ListN.{length};
+use charge::Tariff;
 use integers::bytes;
+use integers::signed;
 use model::Reply;
 use pd3120::replies;
+use script::calls::Blocks;
 use script::calls::Line;
+use script::calls::Parsed;
 use script::parameters::Wrong;
 use script::print;
 
@@ -104,6 +108,37 @@ fn put_look_up(out: &mut [u8], at: usize, reply: Reply, real_bits: u32) -> usize
     put_buffer(out, to, &bytes::bytes_of_u32(real_bits))
 }
 
+// charge NUMBER CENTS. The charge itself is made here, since it asks nothing of the box.
+fn put_charge(
+    out: &mut [u8],
+    at: usize,
+    earlier: u32,
+    later: u32,
+    litres: u32,
+    blocks: Blocks,
+) -> usize
+    requires { ⌜ at ≤ length (now out) ⌝ }
+    ensures { λ r. ⌜ r ≤ length (now (out .exit)) ⌝ }
+{
+    let limits = blocks.limits;
+    let prices = blocks.prices;
+    let tariff = Tariff {
+        blocks: blocks.count,
+        limits: limits,
+        prices: prices,
+    };
+    let charged = charge::charge(
+        signed::i32_of_bits(earlier),
+        signed::i32_of_bits(later),
+        litres,
+        tariff,
+    );
+    let t1 = print::put(out, at, b"charge");
+    let t2 = print::put_number(out, t1, charged.number as u64);
+    let t3 = print::put_number(out, t2, charged.cents);
+    print::put(out, t3, b"\n")
+}
+
 // Why a line is no call.
 fn put_why(out: &mut [u8], at: usize, why: Wrong) -> usize
     requires { ⌜ at ≤ length (now out) ⌝ }
@@ -135,7 +170,7 @@ fn put_error(out: &mut [u8], at: usize, line: u64, why: Wrong) -> usize
 pub(crate) fn put_answer(
     out: &mut [u8],
     at: usize,
-    line: Line,
+    parsed: Parsed,
     number: u64,
     reply: Reply,
     data_error: bool,
@@ -146,6 +181,8 @@ pub(crate) fn put_answer(
     requires { ⌜ at ≤ length (now out) ⌝ }
     ensures { λ r. ⌜ r ≤ length (now (out .exit)) ⌝ }
 {
+    let line = parsed.line;
+    let blocks = parsed.blocks;
     match line {
         Line::Empty => at,
         Line::Error(why) => put_error(out, at, number, why),
@@ -156,5 +193,8 @@ pub(crate) fn put_answer(
         Line::Sample(_, _, _) => put_plain(out, at, b"sample", reply),
         Line::LookUp(_, _) => put_look_up(out, at, reply, real_bits),
         Line::Tick(_) => put_plain(out, at, b"tick", reply),
+        Line::Charge(earlier, later, litres) => {
+            put_charge(out, at, earlier, later, litres, blocks)
+        }
     }
 }

@@ -69,5 +69,7 @@ pub(crate) fn perform(m: Module, line: Line, bytes: &mut [u8]) -> Answered {
             make(m, Call::LookUp(table, reals::of_bits(real)), 1, b"", bytes)
         }
         Line::Tick(n) => make(m, Call::Tick, n, b"", bytes),
+        // no call on the box
+        Line::Charge(_, _, _) => plain(m, Reply::Done(0)),
     }
 }

@@ -64,7 +64,7 @@ fn run_line(p: Player, line: &[u8], space: &mut [u8], out: &mut [u8], at: usize)
     let to = answers::put_answer(
         out,
         at,
-        asked,
+        parsed,
         number,
         reply,
         answered.data_error,

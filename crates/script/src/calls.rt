@@ -9,9 +9,10 @@ use crate::words;
 // What `store` lends, and how much of it at most.
 const LENT: u8 = 0xA5;
 
-const LONGEST_STORE: u32 = 4096;
+const LONGEST_STORE: u64 = 4096;
 
-// What a line asks for. The bytes of an image, a write or a lent buffer stand beside it.
+// What a line asks for. The bytes of an image, a write or a lent buffer stand beside it, and so do
+// the blocks of a charge, of which the line itself has the bits of two counters and the litres.
 pub enum Line {
     Empty,
     Error(Wrong),
@@ -22,18 +23,39 @@ pub enum Line {
     Sample(u8, bool, u32),
     LookUp(u8, u32),
     Tick(u32),
+    Charge(u32, u32, u32),
 }
 
-// A line, and how many bytes it has put at the start of the lent space.
+// The blocks of a charge: how many there are, and the limits and prices of the first.
+pub struct Blocks {
+    pub count: u32,
+    pub limits: [u64; 3],
+    pub prices: [u32; 4],
+}
+
+pub(crate) fn no_blocks() -> Blocks {
+    Blocks {
+        count: 0,
+        limits: [0; 3],
+        prices: [0; 4],
+    }
+}
+
+// A line, how many bytes it has put at the start of the lent space, and its blocks.
 pub struct Parsed {
     pub line: Line,
     pub n: usize,
+    pub blocks: Blocks,
 }
 
 pub fn plain(line: Line) -> Parsed
     ensures { λ r. ⌜ r .n ≤ 0 ⌝ }
 {
-    Parsed { line: line, n: 0 }
+    Parsed {
+        line: line,
+        n: 0,
+        blocks: no_blocks(),
+    }
 }
 
 pub fn wrong(why: Wrong) -> Parsed
@@ -56,7 +78,11 @@ fn with_bytes(line: Line, word: &[u8], space: &mut [u8]) -> Parsed
         return wrong(Wrong::OddDigits);
     }
     let n = digits::parse_bytes(word, space);
-    Parsed { line: line, n: n }
+    Parsed {
+        line: line,
+        n: n,
+        blocks: no_blocks(),
+    }
 }
 
 pub fn parse_power(count: usize, word: &[u8], space: &mut [u8]) -> Parsed
@@ -98,6 +124,7 @@ pub fn parse_store(count: usize, word: &[u8], space: &mut [u8]) -> Parsed
     Parsed {
         line: Line::Store,
         n: n,
+        blocks: no_blocks(),
     }
 }
 
@@ -141,12 +168,12 @@ pub fn parse_sample(count: usize, first: &[u8], second: &[u8], third: &[u8]) -> 
     if !on & !off {
         return wrong(Wrong::NotBit);
     }
-    let real = parameters::real(third);
+    let real = parameters::bits(third);
     let real_why = real.why;
     if !real.right {
         return wrong(real_why);
     }
-    plain(Line::Sample(channel.value as u8, on, real.value))
+    plain(Line::Sample(channel.value as u8, on, real.value as u32))
 }
 
 pub fn parse_look_up(count: usize, first: &[u8], second: &[u8]) -> Parsed
@@ -160,12 +187,12 @@ pub fn parse_look_up(count: usize, first: &[u8], second: &[u8]) -> Parsed
     if !table.right {
         return wrong(table_why);
     }
-    let real = parameters::real(second);
+    let real = parameters::bits(second);
     let real_why = real.why;
     if !real.right {
         return wrong(real_why);
     }
-    plain(Line::LookUp(table.value as u8, real.value))
+    plain(Line::LookUp(table.value as u8, real.value as u32))
 }
 
 pub fn parse_tick(count: usize, word: &[u8]) -> Parsed
@@ -177,10 +204,10 @@ pub fn parse_tick(count: usize, word: &[u8]) -> Parsed
     if count != 1 {
         return wrong(Wrong::WordCount);
     }
-    let ticks = parameters::decimal(word, u32::MAX);
+    let ticks = parameters::decimal(word, 4294967295);
     let ticks_why = ticks.why;
     if !ticks.right {
         return wrong(ticks_why);
     }
-    plain(Line::Tick(ticks.value))
+    plain(Line::Tick(ticks.value as u32))
 }

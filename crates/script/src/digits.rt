@@ -29,25 +29,34 @@ pub fn only_digits(word: &[u8], base: u8) -> bool {
 // A number, and whether it is at most the highest allowed; 0 where it is not.
 pub struct Number {
     pub fits: bool,
-    pub value: u32,
+    pub value: u64,
+}
+
+fn too_large() -> Number
+    ensures { λ r. ⌜ r .value ≤ 0 ⌝ }
+{
+    Number {
+        fits: false,
+        value: 0,
+    }
 }
 
 // The number that a word of digits writes.
-pub(crate) fn parse_number(word: &[u8], base: u64, highest: u32) -> Number
-    requires { ⌜ base ≤ 16 ⌝ }
+pub(crate) fn parse_number(word: &[u8], base: u64, highest: u64) -> Number
+    requires { ⌜ 1 ≤ base ⌝ }
     ensures { λ r. ⌜ r .value ≤ highest ⌝ }
 {
-    let mut n: u32 = 0;
+    let mut n: u64 = 0;
     let mut i = 0;
     while i < word.len() {
-        let next = (n as u64) * base + (value(word[i]) as u64);
-        if (highest as u64) < next {
-            return Number {
-                fits: false,
-                value: 0,
-            };
+        let digit = value(word[i]) as u64;
+        if highest / base < n {
+            return too_large();
         }
-        n = next as u32;
+        if highest - n * base < digit {
+            return too_large();
+        }
+        n = n * base + digit;
         i += 1;
     }
     Number {

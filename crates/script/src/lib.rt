@@ -2,6 +2,7 @@
 // the box. Every function is safe and ends; what it answers is compared with an independent player
 // by running.
 pub mod calls;
+mod charges;
 mod digits;
 pub mod lines;
 pub mod parameters;

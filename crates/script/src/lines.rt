@@ -4,6 +4,7 @@ ghost use lib.ListN.{length};
 use crate::calls;
 use crate::calls::Line;
 use crate::calls::Parsed;
+use crate::charges;
 use crate::parameters::Wrong;
 use crate::words;
 
@@ -19,6 +20,7 @@ enum Name {
     Sample,
     LookUp,
     Tick,
+    Charge,
     Unknown,
 }
 
@@ -44,15 +46,20 @@ fn name_of(word: &[u8]) -> Name {
     if words::same(word, b"tick") {
         return Name::Tick;
     }
+    if words::same(word, b"charge") {
+        return Name::Charge;
+    }
     Name::Unknown
 }
 
+// count is that of all words after the call's name; after holds those past the third.
 fn parse_call(
     name: Name,
     count: usize,
     first: &[u8],
     second: &[u8],
     third: &[u8],
+    after: &[u8],
     space: &mut [u8],
 ) -> Parsed
     ensures { λ r. ⌜ r .n ≤ length (now (space .exit)) ⌝ }
@@ -65,22 +72,9 @@ fn parse_call(
         Name::Sample => calls::parse_sample(count, first, second, third),
         Name::LookUp => calls::parse_look_up(count, first, second),
         Name::Tick => calls::parse_tick(count, first),
+        Name::Charge => charges::parse_charge(count, first, second, third, after),
         Name::Unknown => calls::wrong(Wrong::UnknownCall),
     }
-}
-
-// How many words there are after the call's name; 4 stands for any more than 3.
-fn count_words(first: bool, second: bool, third: bool, fourth: bool) -> usize {
-    if fourth {
-        return 4;
-    }
-    if third {
-        return 3;
-    }
-    if second {
-        return 2;
-    }
-    if first { 1 } else { 0 }
 }
 
 // The words after the call's name.
@@ -93,19 +87,13 @@ fn parse_rest(name: Name, rest: &[u8], space: &mut [u8]) -> Parsed
     let second_end = words::skip(rest, second, false);
     let third = words::skip(rest, second_end, true);
     let third_end = words::skip(rest, third, false);
-    let fourth = words::skip(rest, third_end, true);
-    let count = count_words(
-        first < rest.len(),
-        second < rest.len(),
-        third < rest.len(),
-        fourth < rest.len(),
-    );
     parse_call(
         name,
-        count,
+        words::count(rest),
         &rest[first..first_end],
         &rest[second..second_end],
         &rest[third..third_end],
+        &rest[third_end..],
         space,
     )
 }

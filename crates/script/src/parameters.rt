@@ -18,7 +18,7 @@ pub enum Wrong {
 pub struct Parameter {
     pub right: bool,
     pub why: Wrong,
-    pub value: u32,
+    pub value: u64,
 }
 
 fn misread(why: Wrong) -> Parameter
@@ -31,8 +31,8 @@ fn misread(why: Wrong) -> Parameter
     }
 }
 
-fn number(word: &[u8], base: u64, highest: u32) -> Parameter
-    requires { ⌜ base ≤ 16 ⌝ }
+fn number(word: &[u8], base: u64, highest: u64) -> Parameter
+    requires { ⌜ 1 ≤ base ⌝ }
     ensures { λ r. ⌜ r .value ≤ highest ⌝ }
 {
     let n = digits::parse_number(word, base, highest);
@@ -47,7 +47,7 @@ fn number(word: &[u8], base: u64, highest: u32) -> Parameter
     misread(Wrong::TooLarge)
 }
 
-pub fn decimal(word: &[u8], highest: u32) -> Parameter
+pub fn decimal(word: &[u8], highest: u64) -> Parameter
     ensures { λ r. ⌜ r .value ≤ highest ⌝ }
 {
     if digits::only_digits(word, 10) {
@@ -56,7 +56,7 @@ pub fn decimal(word: &[u8], highest: u32) -> Parameter
     misread(Wrong::NotDecimal)
 }
 
-pub fn hexadecimal(word: &[u8], highest: u32) -> Parameter
+pub fn hexadecimal(word: &[u8], highest: u64) -> Parameter
     ensures { λ r. ⌜ r .value ≤ highest ⌝ }
 {
     if digits::only_digits(word, 16) {
@@ -65,10 +65,12 @@ pub fn hexadecimal(word: &[u8], highest: u32) -> Parameter
     misread(Wrong::NotHexadecimal)
 }
 
-// The eight digits of a Real.
-pub fn real(word: &[u8]) -> Parameter {
+// The eight digits of 32 bits: of a Real, or of a Counter as it is read.
+pub fn bits(word: &[u8]) -> Parameter
+    ensures { λ r. ⌜ r .value ≤ 4294967295 ⌝ }
+{
     if word.len() != 8 {
         return misread(Wrong::NotHexadecimal);
     }
-    hexadecimal(word, u32::MAX)
+    hexadecimal(word, 4294967295)
 }

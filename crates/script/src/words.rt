@@ -40,6 +40,24 @@ pub(crate) fn skip(s: &[u8], at: usize, separators: bool) -> usize
     i
 }
 
+fn bit(b: bool) -> usize
+    ensures { λ r. ⌜ r ≤ 1 ⌝ }
+{
+    if b { 1 } else { 0 }
+}
+
+// How many words there are. A word begins at a byte of it that has none before it.
+pub(crate) fn count(s: &[u8]) -> usize {
+    let mut n = 0;
+    let mut inside = false;
+    for i in 0..s.len() {
+        let part = !separates(s[i]);
+        n += bit(part & !inside);
+        inside = part;
+    }
+    n
+}
+
 pub fn same(a: &[u8], b: &[u8]) -> bool {
     if a.len() != b.len() {
         return false;

@@ -2,12 +2,16 @@
 //! the top of `src/bin/play.rs`.
 
 mod call;
+mod charge;
 mod device;
 mod reply;
+mod words;
 
-pub use call::{Call, Why};
+pub use call::Call;
+pub use charge::Charge;
 pub use device::Device;
 pub use reply::Reply;
+pub use words::Why;
 
 use std::io::{self, BufRead, Write};
 

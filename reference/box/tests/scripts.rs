@@ -19,6 +19,7 @@ const KINDS: &[&str] = &[
     "tables",
     "runs",
     "samples",
+    "charges",
     "mixed",
 ];
 
@@ -120,6 +121,32 @@ fn a_store_that_is_powered_up_again_is_stored_as_the_same_bytes() {
         let image = stored.strip_prefix("store 0 886 ").expect("done");
         let again = played(&format!("power {image}\nstore 886\n"));
         assert_eq!(again, format!("power 0\n{stored}\n"));
+    }
+}
+
+/// A line for each that is no comment and not blank.
+#[test]
+fn the_scripts_of_the_format_are_answered_line_for_line() {
+    let script = include_str!("../scripts/format.calls");
+    let calls = script.lines().map(|line| line.split('#').next());
+    let calls = calls.filter(|line| line.is_some_and(|line| !line.trim().is_empty()));
+    let answers = played(script);
+    assert_eq!(calls.count(), answers.lines().count());
+    for answer in ["charge 0 0", "charge 16 0", "charge 17 0"] {
+        assert!(answers.lines().any(|line| line == answer), "{answer}");
+    }
+}
+
+/// Change 4: every number of a charge within one script.
+#[test]
+fn the_scripts_of_charges_reach_every_number_of_theirs() {
+    for seed in 1..=3 {
+        let answers = played(&generated(seed, 600, "charges"));
+        let seen: BTreeSet<_> = answers.lines().map(name_and_number).collect();
+        for number in ["0", "16", "17"] {
+            let what = ("charge".to_string(), number.to_string());
+            assert!(seen.contains(&what), "seed {seed}: {number}");
+        }
     }
 }
 

@@ -17,8 +17,8 @@ pub struct Difference {
     device: Shown,
 }
 
-/// What is compared after a call: number, length, two bits, whole buffer and the
-/// bits of a Real, and the outputs.
+/// What is compared after a call: number, length, two bits, whole buffer, the
+/// bits of a Real and the cents, and the outputs.
 #[derive(Debug, PartialEq, Eq)]
 struct Shown {
     reply: Reply,
@@ -146,6 +146,16 @@ mod tests {
         }
         fn lookup(&self, table: u8, x: Real) -> (u8, Real) {
             self.0.lookup(table, x)
+        }
+        fn charge(
+            &self,
+            earlier: i32,
+            later: i32,
+            litres: u32,
+            limits: &[u64],
+            prices: &[u32],
+        ) -> (u8, u64) {
+            self.0.charge(earlier, later, litres, limits, prices)
         }
         fn output(&self, channel: u8) -> bool {
             self.0.output(channel)

@@ -1,6 +1,6 @@
-//! The library's box as a device that scripts are played on.
+//! The library's box as a device that scripts are played on, and its charge.
 
-use pd3120::{Error, ErrorBits, Pd3120};
+use pd3120::{Block, Error, ErrorBits, Pd3120, Tariff};
 use reference_box::player::Device;
 use reference_box::reals::Real;
 use reference_box::Answer;
@@ -28,6 +28,19 @@ fn wire(answer: Result<pd3120::Answer, Error>) -> Answer {
         length,
         data_error,
         general_error,
+    }
+}
+
+/// The model's limits and prices, of any number of blocks.
+fn tariff(limits: &[u64], prices: &[u32]) -> Tariff {
+    let block = |(&limit, &price)| Block { limit, price };
+    let limited: Vec<Block> = limits.iter().zip(prices).map(block).collect();
+    match prices.last() {
+        Some(&last) => Tariff::new(&limited, last),
+        None => Tariff {
+            blocks: 0,
+            ..Tariff::new(&[], 0)
+        },
     }
 }
 
@@ -63,6 +76,21 @@ impl Device for Library {
         match self.0.look_up(table, f32::from_bits(x)) {
             Ok(level) => (0, level.to_bits()),
             Err(error) => (error.number(), 0),
+        }
+    }
+
+    fn charge(
+        &self,
+        earlier: i32,
+        later: i32,
+        litres_per_pulse: u32,
+        limits: &[u64],
+        prices: &[u32],
+    ) -> (u8, u64) {
+        let tariff = tariff(limits, prices);
+        match pd3120::charge(earlier, later, litres_per_pulse, &tariff) {
+            Ok(cents) => (0, cents),
+            Err(refusal) => (refusal.number(), 0),
         }
     }
 

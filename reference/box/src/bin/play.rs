@@ -14,12 +14,20 @@
 //! | `sample CH LEVEL REAL` | `sample NUMBER`                            |
 //! | `tick [N]`        | `tick 0`, one line for N ticks                  |
 //! | `lookup TABLE REAL` | `lookup NUMBER REAL`, `00000000` where refused |
+//! | `charge EARLIER LATER LITRES [LIMIT PRICE]... PRICE` | `charge NUMBER CENTS`, `0` where refused |
 //!
 //! `store` lends N bytes of $A5, N up to 4096. SWNO is hexadecimal, up to
 //! $FFFF; CH and TABLE are decimal, up to 255; LEVEL is 0 or 1; REAL is a
 //! Real's eight hexadecimal digits, lowercase ones in an answer; N ticks are
 //! decimal, up to 4294967295, 1 if left out. Before the first `power` the box
 //! is the one of a refused power-up.
+//!
+//! `charge` is no call on the box. EARLIER and LATER are two Counter values as
+//! a read gives them, eight hexadecimal digits each. The other words are
+//! decimal: LITRES, litres per pulse, and PRICE, in hundredths of a cent per
+//! litre, up to 4294967295, LIMIT, in litres, up to 18446744073709551615. The
+//! blocks stand in order, the last a price alone; up to eight are taken in, and
+//! where there is none, there is no word after LITRES. CENTS are decimal.
 //!
 //! Every other line changes nothing and gets `error LINE: WHY`, with LINE
 //! counted from 1. WHY is the first of these that holds, words being looked
@@ -30,7 +38,7 @@
 //! - `unknown call`: the first word is no call's name
 //! - `wrong number of words`
 //! - `not a hexadecimal string`: some other character in it, '-' for a number,
-//!   or a REAL that is not of eight digits
+//!   or a REAL or a Counter value that is not of eight digits
 //! - `odd number of hexadecimal digits`: in a byte string
 //! - `not a decimal number`
 //! - `number too large`

@@ -2,6 +2,7 @@
 //! together.
 
 mod calm;
+mod charges;
 mod corners;
 mod data;
 mod ends;
@@ -17,6 +18,7 @@ mod ticks;
 mod writes;
 
 pub use calm::*;
+pub use charges::*;
 pub use corners::*;
 pub use data::*;
 pub use ends::*;

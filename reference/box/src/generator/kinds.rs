@@ -22,6 +22,7 @@ pub enum Kind {
     Tables,
     Runs,
     Samples,
+    Charges,
     Mixed,
 }
 
@@ -41,6 +42,7 @@ pub const KINDS: &[(&str, Kind)] = &[
     ("tables", Kind::Tables),
     ("runs", Kind::Runs),
     ("samples", Kind::Samples),
+    ("charges", Kind::Charges),
     ("mixed", Kind::Mixed),
 ];
 

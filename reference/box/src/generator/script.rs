@@ -1,5 +1,7 @@
 //! The script being written, and what its writer knows of the box.
 
+mod readings;
+
 use super::random::Random;
 use super::values::{self, Flavour};
 use crate::data::LookUp;
@@ -8,6 +10,7 @@ use crate::player::Call;
 use crate::reals;
 use crate::registers::{Access, Digital, Register};
 use crate::CHANNELS;
+use readings::Played;
 use std::fmt::Write;
 
 /// Ticks from one save to the next.
@@ -44,6 +47,8 @@ pub struct Script {
     write_enable: bool,
     ticks: u64,
     calls: Vec<Call>,
+    /// The box that the calls so far leave.
+    played: Played,
 }
 
 impl Script {
@@ -61,6 +66,7 @@ impl Script {
             write_enable: false,
             ticks: 0,
             calls: Vec::new(),
+            played: Played::default(),
         };
         script.refocus();
         script
@@ -73,6 +79,7 @@ impl Script {
 
     /// The calls so far, which are taken out.
     pub fn take_calls(&mut self) -> Vec<Call> {
+        self.played = Played::default();
         std::mem::take(&mut self.calls)
     }
 

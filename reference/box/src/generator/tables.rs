@@ -1,10 +1,12 @@
 //! Which actions each kind of script takes, and how often.
 
+mod above;
 mod holding;
 mod running;
 
 use super::actions::{self as act, Action};
 use super::kinds::Kind;
+use above::CHARGES;
 use holding::{ENDS, IMAGES, REFUSALS, REGISTERS, RESET, SAVE, TABLES};
 use running::{CURRENTS, ERRORS, FEEDBACK, RUNS, SAMPLES, TICKS, WATCHDOG};
 
@@ -28,6 +30,7 @@ impl Kind {
             Kind::Tables => TABLES,
             Kind::Runs => RUNS,
             Kind::Samples => SAMPLES,
+            Kind::Charges => CHARGES,
             Kind::Mixed => MIXED,
         }
     }
@@ -42,6 +45,9 @@ const MIXED: Table = &[
     (1, act::refused_sample),
     (1, act::read_data),
     (1, act::lookup),
+    (1, act::charge),
+    (1, act::refused_charge),
+    (1, act::charge_readings),
     (1, act::refocus),
 ];
 
@@ -61,5 +67,6 @@ pub const PHASES: &[(u64, Kind)] = &[
     (2, Kind::Tables),
     (2, Kind::Runs),
     (3, Kind::Samples),
+    (2, Kind::Charges),
     (2, Kind::Mixed),
 ];

@@ -1,5 +1,7 @@
-//! Random values: counts, Reals, configurations, lookup tables and images.
+//! Random values: counts, Reals, configurations, lookup tables, images and
+//! charges.
 
+mod charges;
 mod currents;
 mod lookups;
 mod numbers;
@@ -7,6 +9,10 @@ mod operating;
 mod settings;
 mod suiting;
 
+pub use charges::{
+    blocks, blocks_ending, litres_per_pulse, price, pulses, reading, refused_blocks,
+    refused_litres, small_blocks, Blocks,
+};
 pub use currents::{current, quiet_current, refused_current, sample_current, tripping_current};
 pub use lookups::{table, x_for};
 pub use numbers::{end_count, end_real, limit, signed_time, small_count, time};

@@ -1,39 +1,13 @@
 //! A call as a line of a script.
 
+use super::charge::Charge;
 use super::device::Device;
 use super::reply::{hexadecimal, Reply};
+use super::words::{bit, bytes, decimal, decimal_word, real_of, small, swno_of, words_of, Why};
 use std::fmt;
 
 const LONGEST_STORE: u64 = 4096;
 const LENT: u8 = 0xA5;
-
-/// Why a line is no call.
-#[derive(Clone, Copy, Debug, PartialEq, Eq)]
-pub enum Why {
-    LineTooLong,
-    UnknownCall,
-    WrongNumberOfWords,
-    NotHexadecimal,
-    OddNumberOfDigits,
-    NotDecimal,
-    NumberTooLarge,
-    NotZeroOrOne,
-}
-
-impl fmt::Display for Why {
-    fn fmt(&self, formatter: &mut fmt::Formatter) -> fmt::Result {
-        formatter.write_str(match self {
-            Why::LineTooLong => "line too long",
-            Why::UnknownCall => "unknown call",
-            Why::WrongNumberOfWords => "wrong number of words",
-            Why::NotHexadecimal => "not a hexadecimal string",
-            Why::OddNumberOfDigits => "odd number of hexadecimal digits",
-            Why::NotDecimal => "not a decimal number",
-            Why::NumberTooLarge => "number too large",
-            Why::NotZeroOrOne => "not 0 or 1",
-        })
-    }
-}
 
 /// A call as the script gives it.
 #[derive(Clone, Debug, PartialEq, Eq)]
@@ -47,6 +21,8 @@ pub enum Call {
     Tick(u32),
     /// Change 1: a table and X.
     Lookup(u8, u32),
+    /// Change 4: two Counter values, litres per pulse and the blocks.
+    Charge(Charge),
 }
 
 impl Call {
@@ -73,11 +49,9 @@ impl Call {
                 Ok(Call::Sample(channel, level, real_of(real)?))
             }
             (b"lookup", [table, real]) => Ok(Call::Lookup(small(table)?, real_of(real)?)),
+            (b"charge", _) => Charge::from_words(words).map(Call::Charge),
             (b"tick", []) => Ok(Call::Tick(1)),
-            (b"tick", [count]) => {
-                let count = decimal(count, u64::from(u32::MAX))?;
-                Ok(Call::Tick(count as u32))
-            }
+            (b"tick", [count]) => Ok(Call::Tick(decimal_word(count)?)),
             _ if is_name(name) => Err(Why::WrongNumberOfWords),
             _ => Err(Why::UnknownCall),
         }
@@ -110,20 +84,26 @@ impl Call {
                 let (number, real) = device.lookup(*table, *x);
                 Reply::Lookup(number, real)
             }
+            Call::Charge(charge) => charge.make(device),
         }
     }
 }
 
 /// "A wire call is for the channel of its SWNo, a sample for its own channel,
 /// refused ones included". Change 1: "Data calls are never strangers' calls":
-/// a wire call of $13 is for channel 19, a lookup for none.
+/// a wire call of $13 is for channel 19, a lookup for none. Change 4: a charge
+/// stands "above the box" and is no call on it at all.
 impl Call {
     /// The channel that a call is for, digital or not.
     pub fn channel(&self) -> Option<u16> {
         match self {
             Call::Read(swno, _) | Call::Write(swno, _) => Some(swno >> 4),
             Call::Sample(channel, ..) => Some(u16::from(*channel)),
-            Call::Power(_) | Call::Store(_) | Call::Tick(_) | Call::Lookup(..) => None,
+            Call::Power(_)
+            | Call::Store(_)
+            | Call::Tick(_)
+            | Call::Lookup(..)
+            | Call::Charge(_) => None,
         }
     }
 
@@ -147,6 +127,7 @@ impl fmt::Display for Call {
             Call::Tick(1) => write!(formatter, "tick"),
             Call::Tick(count) => write!(formatter, "tick {count}"),
             Call::Lookup(table, x) => write!(formatter, "lookup {table} {x:08x}"),
+            Call::Charge(charge) => charge.fmt(formatter),
         }
     }
 }
@@ -158,87 +139,19 @@ fn is_name(word: &[u8]) -> bool {
     names.contains(&word)
 }
 
-/// The words of a line before its comment.
-fn words_of(line: &[u8]) -> Vec<&[u8]> {
-    let end = line.iter().position(|&byte| byte == b'#');
-    line[..end.unwrap_or(line.len())]
-        .split(|byte| matches!(byte, b' ' | b'\t' | b'\r'))
-        .filter(|word| !word.is_empty())
-        .collect()
-}
-
-fn digit(byte: u8) -> Option<u8> {
-    char::from(byte).to_digit(16).map(|digit| digit as u8)
-}
-
-/// The digits of a word, which has at least one and nothing else.
-fn digits(word: &[u8]) -> Result<Vec<u8>, Why> {
-    let digits: Option<Vec<u8>> = word.iter().map(|&byte| digit(byte)).collect();
-    digits
-        .filter(|digits| !digits.is_empty())
-        .ok_or(Why::NotHexadecimal)
-}
-
-fn bytes(word: &[u8]) -> Result<Vec<u8>, Why> {
-    if word == b"-" {
-        return Ok(Vec::new());
-    }
-    let digits = digits(word)?;
-    if digits.len() % 2 == 1 {
-        return Err(Why::OddNumberOfDigits);
-    }
-    let pairs = digits.chunks_exact(2);
-    Ok(pairs.map(|pair| pair[0] << 4 | pair[1]).collect())
-}
-
-/// A number of digits of a base, at most `highest`.
-fn number(digits: &[u8], base: u64, highest: u64) -> Result<u64, Why> {
-    digits.iter().try_fold(0, |number, &digit| {
-        let next = number * base + u64::from(digit);
-        if next > highest {
-            Err(Why::NumberTooLarge)
-        } else {
-            Ok(next)
-        }
-    })
-}
-
-fn swno_of(word: &[u8]) -> Result<u16, Why> {
-    let swno = number(&digits(word)?, 16, u64::from(u16::MAX))?;
-    Ok(swno as u16)
-}
-
-fn real_of(word: &[u8]) -> Result<u32, Why> {
-    let digits = digits(word)?;
-    if digits.len() != 8 {
-        return Err(Why::NotHexadecimal);
-    }
-    Ok(number(&digits, 16, u64::from(u32::MAX))? as u32)
-}
-
-fn decimal(word: &[u8], highest: u64) -> Result<u64, Why> {
-    if word.is_empty() || !word.iter().all(u8::is_ascii_digit) {
-        return Err(Why::NotDecimal);
-    }
-    number(&digits(word)?, 10, highest)
-}
-
-/// A channel or a table.
-fn small(word: &[u8]) -> Result<u8, Why> {
-    Ok(decimal(word, u64::from(u8::MAX))? as u8)
-}
-
-fn bit(word: &[u8]) -> Result<bool, Why> {
-    match word {
-        b"0" => Ok(false),
-        b"1" => Ok(true),
-        _ => Err(Why::NotZeroOrOne),
-    }
-}
-
 #[cfg(test)]
 mod tests {
     use super::*;
+
+    fn charge(earlier: i32, later: i32, litres: u32, limits: &[u64], prices: &[u32]) -> Call {
+        Call::Charge(Charge {
+            earlier,
+            later,
+            litres_per_pulse: litres,
+            limits: limits.to_vec(),
+            prices: prices.to_vec(),
+        })
+    }
 
     #[test]
     fn a_call_is_read_back_from_its_line() {
@@ -252,6 +165,10 @@ mod tests {
             Call::Tick(1),
             Call::Tick(1_152_000),
             Call::Lookup(255, 0x0000_000A),
+            charge(0, 0, 0, &[], &[]),
+            charge(-1, 10, u32::MAX, &[], &[u32::MAX]),
+            charge(i32::MIN, i32::MAX, 1, &[0, u64::MAX], &[0, 7, 8]),
+            charge(1, 2, 10, &[7, 6, 5, 4, 3, 2, 1], &[8; 8]),
         ] {
             let line = call.to_string();
             assert_eq!(Call::parse(line.as_bytes()), Ok(Some(call)), "{line}");
@@ -270,5 +187,7 @@ mod tests {
         assert_eq!(Call::Lookup(1, 0).channel(), None);
         assert!(Call::Read(0x130, vec![]).is_wire() && !Call::Lookup(1, 0).is_wire());
         assert!(!Call::Sample(1, true, 0).is_wire());
+        let charge = charge(0, 1, 1, &[], &[1]);
+        assert!(charge.channel().is_none() && !charge.is_wire());
     }
 }

@@ -1,6 +1,7 @@
 //! What a script is played on.
 
 use crate::channel::Channel;
+use crate::charge;
 use crate::reals::Real;
 use crate::{Answer, ChannelBox};
 
@@ -17,6 +18,16 @@ pub trait Device {
     fn tick(&mut self);
     /// Change 1: gives its number and the Real, 0 where it is refused.
     fn lookup(&self, table: u8, x: Real) -> (u8, Real);
+    /// Change 4: gives its number and the cents, 0 where it is refused. It is
+    /// no call on the box: it changes nothing and asks nothing of it.
+    fn charge(
+        &self,
+        earlier: i32,
+        later: i32,
+        litres_per_pulse: u32,
+        limits: &[u64],
+        prices: &[u32],
+    ) -> (u8, u64);
     /// Output of a channel, which no line of a script asks for; FALSE where
     /// there is no such channel.
     fn output(&self, channel: u8) -> bool;
@@ -49,6 +60,17 @@ impl Device for ChannelBox {
 
     fn lookup(&self, table: u8, x: Real) -> (u8, Real) {
         ChannelBox::lookup(self, table, x)
+    }
+
+    fn charge(
+        &self,
+        earlier: i32,
+        later: i32,
+        litres_per_pulse: u32,
+        limits: &[u64],
+        prices: &[u32],
+    ) -> (u8, u64) {
+        charge::charge(earlier, later, litres_per_pulse, limits, prices)
     }
 
     fn output(&self, channel: u8) -> bool {

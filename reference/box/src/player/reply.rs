@@ -14,6 +14,8 @@ pub enum Reply {
     Sample(u8),
     Tick,
     Lookup(u8, Real),
+    /// Change 4: the number and the cents.
+    Charge(u8, u64),
 }
 
 impl fmt::Display for Reply {
@@ -36,6 +38,7 @@ impl fmt::Display for Reply {
             Reply::Sample(number) => write!(formatter, "sample {number}"),
             Reply::Tick => write!(formatter, "tick 0"),
             Reply::Lookup(number, real) => write!(formatter, "lookup {number} {real:08x}"),
+            Reply::Charge(number, cents) => write!(formatter, "charge {number} {cents}"),
         }
     }
 }

@@ -29,9 +29,10 @@ pub fn ask(image: &[u8], channel: u8, first: &[Call], second: &[Call]) -> Result
     Ok(strangers)
 }
 
-/// "Power-up and storing an image stand outside lists."
+/// "Power-up and storing an image stand outside lists." Change 4: so does a
+/// charge, which is no call on the box.
 fn stands_outside(call: &Call) -> bool {
-    matches!(call, Call::Power(_) | Call::Store(_))
+    matches!(call, Call::Power(_) | Call::Store(_) | Call::Charge(_))
 }
 
 fn named_by_image(image: &[u8], channel: u8) -> Result<Vec<u8>, String> {
@@ -193,5 +194,7 @@ mod tests {
     fn a_refused_image_and_what_stands_outside_lists_are_none() {
         assert!(ask(&[], 1, &[], &[]).is_err());
         assert!(asked("store 886", "store 886").is_err());
+        let charge = "charge 00000000 00000001 1 100";
+        assert!(asked(charge, charge).is_err());
     }
 }

@@ -1,6 +1,7 @@
 //! Single calls, each made many times on a prepared box.
 
 use crate::sides::Side;
+use pd3120::Tariff;
 use reference_box::channel::{flag, Config, Kept};
 use reference_box::data::{KeptData, LookUp, Pair};
 use reference_box::image::{Settings, LENGTH};
@@ -28,6 +29,7 @@ pub enum Work {
     LookUp,
     PowerUp,
     Store,
+    Charge,
 }
 
 /// Every case with its name in the table.
@@ -53,6 +55,7 @@ pub const CASES: &[(&str, Start, Work)] = &[
     ("lookup, in the middle", Start::Busy, Work::LookUp),
     ("power-up, 886 bytes", Start::Busy, Work::PowerUp),
     ("store, 886 bytes", Start::Busy, Work::Store),
+    ("charge, four blocks", Start::Idle, Work::Charge),
 ];
 
 /// ChConfig of channel 1 in the busy box.
@@ -92,6 +95,15 @@ fn busy_data() -> KeptData {
 
 /// An X between the fifth and the sixth entry.
 const MIDDLE: f32 = 5.3;
+
+/// A charge that has litres in each block: 350 pulses of ten litres.
+const READINGS: [i32; 2] = [i32::MAX - 99, i32::MIN + 250];
+const LITRES_PER_PULSE: u32 = 10;
+const TARIFF: Tariff = Tariff {
+    blocks: 4,
+    limits: [1000, 2000, 3000],
+    prices: [150, 200, 325, 410],
+};
 
 /// The setup image of a start, in both with the watchdog off.
 pub fn image(start: Start) -> [u8; LENGTH] {
@@ -147,6 +159,15 @@ pub fn repeat<S: Side>(side: &mut S, work: Work, times: u32) {
         }),
         Work::PowerUp => (0..times).for_each(|_| side.power_up(black_box(&image))),
         Work::Store => (0..times).for_each(|_| side.store(black_box(&mut room))),
+        Work::Charge => (0..times).for_each(|_| {
+            let [earlier, later] = black_box(READINGS);
+            side.charge(
+                earlier,
+                later,
+                black_box(LITRES_PER_PULSE),
+                black_box(&TARIFF),
+            );
+        }),
     }
 }
 
@@ -154,7 +175,7 @@ pub fn repeat<S: Side>(side: &mut S, work: Work, times: u32) {
 mod tests {
     use super::*;
     use crate::sides::Library;
-    use pd3120::{Error, Pd3120};
+    use pd3120::{charge, Error, Pd3120};
 
     fn make(module: &mut Pd3120, work: Work) -> Result<(), Error> {
         match work {
@@ -165,6 +186,7 @@ mod tests {
             Work::LookUp => drop(module.look_up(1, MIDDLE)?),
             Work::PowerUp => module.power_up_again(&image(Start::Busy))?,
             Work::Store => drop(module.store(&mut [0; LENGTH])?),
+            Work::Charge => {} // no call on the box; its test stands below
         }
         Ok(())
     }
@@ -183,6 +205,14 @@ mod tests {
         let Library(module) = prepared(Start::Busy);
         let level = module.look_up(1, MIDDLE).expect("a finite X");
         assert!((28.299..28.301).contains(&level), "{level}");
+    }
+
+    /// 1000 litres at 150, at 200 and at 325, and 500 at 410.
+    #[test]
+    fn the_charge_that_is_measured_has_litres_in_each_block() {
+        let [earlier, later] = READINGS;
+        let cents = charge(earlier, later, LITRES_PER_PULSE, &TARIFF);
+        assert_eq!(cents, Ok(8800));
     }
 
     #[test]

@@ -1,8 +1,8 @@
 //! The two boxes that are measured.
 
-use pd3120::Pd3120;
+use pd3120::{Pd3120, Tariff};
 use reference_box::image::LENGTH;
-use reference_box::ChannelBox;
+use reference_box::{charge, ChannelBox};
 use std::hint::black_box;
 
 /// A box whose calls are measured. Each method makes one call and hands the
@@ -15,6 +15,8 @@ pub trait Side: Clone + Default {
     fn sample(&mut self, channel: u8, level: bool, amperes: f32);
     fn look_up(&self, table: u8, x: f32);
     fn tick(&mut self);
+    /// By a tariff of four blocks. The box has no part in it.
+    fn charge(&self, earlier: i32, later: i32, litres_per_pulse: u32, tariff: &Tariff);
 
     /// The kept values, by which both sides are seen to have done the same.
     fn image(&self) -> [u8; LENGTH] {
@@ -55,6 +57,10 @@ impl Side for Library {
 
     fn tick(&mut self) {
         self.0.tick();
+    }
+
+    fn charge(&self, earlier: i32, later: i32, litres_per_pulse: u32, tariff: &Tariff) {
+        let _ = black_box(pd3120::charge(earlier, later, litres_per_pulse, tariff));
     }
 }
 
@@ -98,5 +104,12 @@ impl Side for Model {
     #[inline(never)]
     fn tick(&mut self) {
         self.0.tick();
+    }
+
+    #[inline(never)]
+    fn charge(&self, earlier: i32, later: i32, litres_per_pulse: u32, tariff: &Tariff) {
+        let (limits, prices) = (&tariff.limits, &tariff.prices);
+        let answer = charge::charge(earlier, later, litres_per_pulse, limits, prices);
+        black_box(answer);
     }
 }

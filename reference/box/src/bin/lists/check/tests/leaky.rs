@@ -177,6 +177,18 @@ impl Device for Leaky {
         self.inner.lookup(table, x)
     }
 
+    fn charge(
+        &self,
+        earlier: i32,
+        later: i32,
+        litres_per_pulse: u32,
+        limits: &[u64],
+        prices: &[u32],
+    ) -> (u8, u64) {
+        self.inner
+            .charge(earlier, later, litres_per_pulse, limits, prices)
+    }
+
     fn output(&self, channel: u8) -> bool {
         Device::output(&self.inner, channel)
     }

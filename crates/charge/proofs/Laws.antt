@@ -1,0 +1,5 @@
+pub mod Blocks
+pub mod Held
+pub mod Loops
+pub mod Tariffs
+pub mod Readings

@@ -1,0 +1,4 @@
+pub mod Laws
+pub mod Claims
+pub mod TwoReadings
+pub mod Worked

@@ -1,0 +1,5 @@
+pub mod Charge
+pub mod Readings
+pub mod Claims
+pub mod TwoReadings
+pub mod Worked
