@@ -233,7 +233,8 @@ uint32_t pd3120_read(pd3120_module *module, uint16_t swno, uint8_t *buffer, size
  * Wire write of a register.
  * Answers number 0, or 1 to 4, 6 or 7; and the two error bits.
  * Changes what the register's rules say, and starts the watchdog again as a read does. Where it is
- * refused, only the watchdog changes.
+ * refused, only the watchdog changes. A time that a register takes, in seconds, becomes the nearest
+ * count of its unit, at a tie the even one. Read before the next tick, it is the time of that count.
  */
 uint32_t pd3120_write(pd3120_module *module, uint16_t swno, const uint8_t *bytes, size_t length);
 

@@ -177,6 +177,7 @@ int main(void)
     answers();
     images();
     wire_calls();
+    written_times();
     samples();
     older_images();
     table_bytes();

@@ -43,6 +43,7 @@ uint32_t power_up(const uint8_t *bytes, size_t length);
 void answers(void);
 void images(void);
 void wire_calls(void);
+void written_times(void);
 void samples(void);
 void older_images(void);
 void table_bytes(void);

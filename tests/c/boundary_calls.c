@@ -136,6 +136,40 @@ void wire_calls(void)
     CHECK(code == (PD3120_BEYOND | 1u << 24 | 1u << 25));
 }
 
+/* A time written is read as that of the nearest count, of 1/256 s or 1/8 s; at a tie, of the even one. */
+void written_times(void)
+{
+    static const struct {
+        uint16_t swno;
+        float written, read;
+    } times[] = {
+        {0x48, 0.3f, 77 / 256.0f},          {0x47, 0.1f, 26 / 256.0f},        {0x41, 1.5f / 256, 2 / 256.0f},
+        {0x41, -1.5f / 256, -2 / 256.0f},   {0x46, 2.5f / 256, 2 / 256.0f},   {0x46, -0.5f / 256, 0.0f},
+        {0x13A, 3.5f / 256, 4 / 256.0f},    {0x13B, 0.7f, 179 / 256.0f},      {0x44, 0.3f, 2 / 8.0f},
+        {0x44, 1.5f / 8, 2 / 8.0f},         {0x44, 2.5f / 8, 2 / 8.0f},       {0x41, -8388608.0f, -8388608.0f},
+        {0x48, 8388607.5f, 8388607.5f},
+    };
+    static const uint8_t yes[1] = {1};
+    uint8_t bytes[4];
+
+    CHECK(power_up(image, PD3120_IMAGE_SIZE) == PD3120_DONE);
+    CHECK(wire_write(0x0D, yes, 1) == PD3120_DONE);
+    for (size_t i = 0; i < sizeof times / sizeof times[0]; i++) {
+        pd3120_put_real(bytes, times[i].written);
+        CHECK(wire_write(times[i].swno, bytes, 4) == PD3120_DONE);
+        pd3120_put_real(bytes, times[i].read);
+        CHECK(reads(times[i].swno, bytes, 4));
+        /* And what is read can be written back. */
+        CHECK(wire_write(times[i].swno, bytes, 4) == PD3120_DONE);
+        CHECK(reads(times[i].swno, bytes, 4));
+    }
+    /* Less than half a count below 0 would become 0, but the range comes first. */
+    pd3120_put_real(bytes, -1 / 1024.0f);
+    CHECK(wire_write(0x48, bytes, 4) == PD3120_NOT_ALLOWED);
+    CHECK(wire_write(0x44, bytes, 4) == PD3120_NOT_ALLOWED);
+    CHECK(wire_write(0x41, bytes, 4) == PD3120_DONE);
+}
+
 /* The currents of samples, on channel 16 of a box just powered up. */
 static void sampled_currents(void)
 {

@@ -2,7 +2,7 @@
 //! [`charge`](mod@charge) for water.
 //!
 //! The box is the Rattle library of this repository: every call does what
-//! document 01 and Changes 1 to 3 of document 02 say, for any box, call and
+//! document 01 and Changes 1 to 3 and 5 of document 02 say, for any box, call and
 //! buffer, and this is proved. [`Pd3120`] reaches it through its C boundary. That
 //! this package declares the boundary as it is, no proof says; its tests and
 //! `tests/rust` compare it. The same holds of the charge and Change 4.
@@ -131,6 +131,22 @@ impl Pd3120 {
     }
 
     /// A wire write of all bytes of a register.
+    ///
+    /// A time that a register takes is a Real in seconds and becomes the nearest
+    /// count of its unit, at a tie the even one. Read before the next tick, it is
+    /// the time of that count.
+    ///
+    /// ```
+    /// use pd3120::Pd3120;
+    ///
+    /// // OutTimer of channel 1 counts in 1/256 s: 0.3 s become 77 of them.
+    /// let mut module = Pd3120::default();
+    /// module.write(0x11, &0.3_f32.to_be_bytes())?;
+    /// let mut bytes = [0; 4];
+    /// module.read(0x11, &mut bytes)?;
+    /// assert_eq!(f32::from_be_bytes(bytes), 77.0 / 256.0);
+    /// # Ok::<(), pd3120::Error>(())
+    /// ```
     #[inline]
     pub fn write(&mut self, swno: u16, bytes: &[u8]) -> Result<Answer, Error> {
         code::wire(self.module.write(swno, bytes))

@@ -47,6 +47,25 @@ fn a_write_answers_no_length_and_is_read_back() {
 }
 
 #[test]
+fn a_time_becomes_the_nearest_count() {
+    let mut module = Pd3120::default();
+    module.write(0x0D, &[1]).expect("WriteEnable");
+    for (swno, written, read) in [
+        (0x18, 0.3, 77.0 / 256.0),
+        (0x17, 1.5 / 256.0, 2.0 / 256.0),
+        (0x11, -1.5 / 256.0, -2.0 / 256.0),
+        (0x16, 2.5 / 256.0, 2.0 / 256.0),
+        (0x13A, -0.5 / 256.0, 0.0),
+        (0x14, 0.1, 1.0 / 8.0),
+        (0x14, 2.5 / 8.0, 2.0 / 8.0),
+    ] {
+        let (written, read): (f32, f32) = (written, read);
+        module.write(swno, &written.to_be_bytes()).expect("a time");
+        assert_eq!(word(&mut module, swno), read.to_be_bytes());
+    }
+}
+
+#[test]
 fn a_current_goes_over_as_its_bits() {
     let mut module = Pd3120::default();
     for amperes in [0.0, -0.0, 1.5, f32::MIN_POSITIVE / 2.0, -f32::MAX] {

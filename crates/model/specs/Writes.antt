@@ -88,7 +88,7 @@ allowed (common r) bs = true
 allowed (data-channel r) bs = dataAllowed r bs
 allowed unlisted bs = true
 
--- ---- Time and amperes 2: the counts that allowed Reals give
+-- ---- Change 5, 2: the counts that allowed Reals give
 abbrev pub timerFrom : List ℕ → TimerCount
 timerFrom bs = timer (countOf timerUnits (realFrom bs))
 

@@ -3,6 +3,9 @@ pub mod Quotient
 pub mod Value
 pub mod ToReal
 pub mod Whole
+pub mod Nearest
+pub mod Inside
 pub mod FromReal
 pub mod Count
 pub mod Range
+pub mod ReadBack

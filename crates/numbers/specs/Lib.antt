@@ -2,3 +2,4 @@
 pub mod Reals
 pub mod Written
 pub mod Claims
+pub mod Worked

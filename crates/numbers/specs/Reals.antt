@@ -1,11 +1,12 @@
--- Document 01, Time and amperes 2 and 3: Reals of 32 bits and counts, once over the unit. A unit is 1 / per of a second.
+-- Document 01, Time and amperes 3, and document 02, Change 5, 2: Reals of 32 bits and counts, once over the unit. A unit is 1 / per of a second.
 -- A Real is the library's `Float`: `fin s m e` is m * 2 ^ e, negative where s is true, and 2 ^ e is the fraction up e / down e. Definitions only.
 use mathlib.Core.Bool.{Bool, true, false}
 use mathlib.Core.List.{List}
-use Prim.Native.Nat.{ℕ, suc, _*_, _/_}
+use Prim.Native.Nat.{ℕ, suc, _*_}
 use lib.Dec.{ltb}
 use lib.IntN.{ℤ, pos, negsuc, negℤ}
 use lib.Ieee.{Float, nan, inf, fin, binary32, up, down, round, ofBits, toBits}
+use lib.Ieee.Nearest.{closest}
 use Rattle.integers.specs.Bytes.{number, bytesOf}
 
 -- a Real on the wire: its bits in four bytes. Every NaN pattern is the one NaN, which gives $7FC00000
@@ -15,9 +16,10 @@ realFrom bs = ofBits binary32 (number bs)
 unfoldable pub realBytes : Float → List ℕ
 realBytes x = bytesOf 4 (toBits binary32 x)
 
--- Time and amperes 2: the whole number that a / b units become, the fraction dropped. The one rounding rule for written times.
+-- Change 5, 2: the whole number that a / b units become, the nearest one, and the even one of two that are as near. The one rounding rule for written
+-- times, OperatingTime's too.
 unfoldable pub whole : ℕ → ℕ → ℕ
-whole a b = a / b
+whole a b = closest a b
 
 -- a finite Real's magnitude as a whole number of units
 unfoldable pub unitsOf : ℕ → Float → ℕ
@@ -42,7 +44,7 @@ unfoldable pub realOf : ℕ → ℤ → Float
 realOf per (pos n) = round binary32 false n per
 realOf per (negsuc n) = round binary32 true (suc n) per
 
--- a finite Real's magnitude is below high units, before anything is dropped
+-- a finite Real's magnitude is below high units, before anything is rounded
 unfoldable pub under : ℕ → ℕ → Float → Bool
 under per high nan = false
 under per high (inf s) = false

@@ -7,7 +7,7 @@ ghost use lib.IntN.{pos, natAbs};
 ghost use lib.Ieee.{binary32, round};
 ghost use lib.Ieee.Nearest.{closest};
 ghost use Rattle.counts.specs.Counts.{timer, timerUnits, operatingUnits};
-ghost use Rattle.numbers.specs.Reals.{whole, unitsOf, countOf, realOf, under};
+ghost use Rattle.numbers.specs.Reals.{unitsOf, countOf, realOf, under};
 ghost use Rattle.numbers.specs.Written.{timerAllowed, operatingAllowed};
 use counts::OperatingCount;
 use counts::TimerCount;
@@ -90,14 +90,6 @@ pub fn operating_real(t: OperatingCount) -> f32
     real_of(false, t.0, OPERATING)
 }
 
-// n / d as a whole number, by the rounding rule for written times.
-fn whole_quotient(n: u64, d: u64) -> u64
-    requires { ⌜ (n < 2 ^ 63) × (0 < d) × (d < 2 ^ 63) ⌝ }
-    ensures { λ r. ⌜ r ≡ whole n d ⌝ }
-{
-    n / d
-}
-
 // The magnitude of x in counts. Where the exponent's field is below 100, x is below 2^-27 s, which is
 // less than half a count of either unit.
 fn units_of(x: f32, unit: u32) -> u64
@@ -111,7 +103,7 @@ fn units_of(x: f32, unit: u32) -> u64
     }
     let divisor = 1u64 << (158 - unit - exponent);
     let digits = LEADING + bits % LEADING;
-    whole_quotient((digits as u64) * 256, divisor)
+    nearest_quotient((digits as u64) * 256, divisor)
 }
 
 // The count of x, with its sign.

@@ -8,9 +8,10 @@
 //! "Built: service channel 0, digital channels 1 to 16, common channel 17,
 //! setup image." Of document 02 (the change requests), Change 1 is built, the
 //! data channel, $13, Change 2, the quarters of an operating count, Change 3,
-//! one sample for level and current, and Change 4, the water charge from two
-//! readings. Their sentences are named "Change 1:" and so on, or stand in
-//! quotation marks in [`data`] and [`charge`].
+//! one sample for level and current, Change 4, the water charge from two
+//! readings, and Change 5, times written that become the nearest count. Their
+//! sentences are named "Change 1:" and so on, or stand in quotation marks in
+//! [`data`] and [`charge`].
 
 pub mod calls;
 pub mod channel;

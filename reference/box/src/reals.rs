@@ -36,6 +36,9 @@ pub const OPERATING_END: Real = 0x4E00_0000;
 const TIMER_PLACES: u32 = 8;
 /// "operating counts in 1/8 s": binary places of an operating count.
 const OPERATING_PLACES: u32 = 3;
+/// A significand has one bit less than these: where so many are dropped, or
+/// more, it is below half a unit.
+const ALL_BELOW_HALF: u32 = FRACTION_BITS + 2;
 
 pub fn is_nan(real: Real) -> bool {
     real & MAGNITUDE > INFINITY
@@ -111,40 +114,43 @@ pub fn is_limit(real: Real) -> bool {
     is_finite(real) && !less(real, ZERO) && !greater(real, ONE)
 }
 
-/// The magnitude of a finite Real in units of 2^-`places`: "the rest dropped
-/// toward zero".
-fn whole_units(real: Real, places: u32) -> u64 {
+/// The magnitude of a finite Real in units of 2^-`places`. Change 5: "the
+/// nearest count, ties to the even one".
+fn nearest_units(real: Real, places: u32) -> u128 {
     let exponent = (real & INFINITY) >> FRACTION_BITS;
-    let fraction = u64::from(real & FRACTION);
+    let fraction = u128::from(real & FRACTION);
     let significand = match exponent {
         0 => fraction,
-        _ => fraction | u64::from(HIDDEN_BIT),
+        _ => fraction | u128::from(HIDDEN_BIT),
     };
     // The value is significand * 2^(up - down).
     let up = exponent.max(1) + places;
     let down = BIAS + FRACTION_BITS;
     if up >= down {
-        significand << (up - down).min(39)
+        significand << (up - down)
     } else {
-        significand >> (down - up).min(63)
+        drop_bits_to_even(significand, (down - up).min(ALL_BELOW_HALF))
     }
 }
 
-/// "A Real time written becomes a count, the rest dropped toward zero."
-/// The Real is one that [`is_timer`] allows.
+/// Change 5: "A Real time written becomes the nearest count, ties to the even
+/// one". Ties lie alike on both sides of 0: −1.5 counts become −2, −0.5 become
+/// 0. The Real is one that [`is_timer`] allows: "Ranges are tested before
+/// rounding; no Real inside them rounds past the largest count."
 pub fn to_timer_count(real: Real) -> i32 {
-    let units = whole_units(real, TIMER_PLACES) as i64;
+    let units = nearest_units(real, TIMER_PLACES) as i64;
     let count = if is_negative(real) { -units } else { units };
     count as i32
 }
 
-/// The same for OperatingTime; the Real is one that [`is_operating`] allows.
+/// Change 5: "the operating time likewise". The Real is one that
+/// [`is_operating`] allows.
 pub fn to_operating_count(real: Real) -> u32 {
-    whole_units(real, OPERATING_PLACES) as u32
+    nearest_units(real, OPERATING_PLACES) as u32
 }
 
 /// "A count read becomes the nearest 32-bit Real, ties to the even last bit."
-fn nearest(units: u32, places: u32) -> Real {
+fn nearest_real(units: u32, places: u32) -> Real {
     if units == 0 {
         return ZERO;
     }
@@ -171,12 +177,12 @@ fn drop_bits_to_even(units: u128, bits: u32) -> u128 {
 /// A timer count, in 1/256 s, as it reads.
 pub fn from_timer_count(count: i32) -> Real {
     let sign = if count < 0 { SIGN } else { 0 };
-    sign | nearest(count.unsigned_abs(), TIMER_PLACES)
+    sign | nearest_real(count.unsigned_abs(), TIMER_PLACES)
 }
 
 /// An operating count, in 1/8 s, as it reads.
 pub fn from_operating_count(count: u32) -> Real {
-    nearest(count, OPERATING_PLACES)
+    nearest_real(count, OPERATING_PLACES)
 }
 
 #[cfg(test)]

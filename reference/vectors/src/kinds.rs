@@ -2,7 +2,7 @@
 
 use std::ops::RangeInclusive;
 
-use crate::results;
+use crate::results::{self, OPERATING_UNITS, TIMER_UNITS};
 
 pub struct Kind {
     pub name: &'static str,
@@ -14,10 +14,12 @@ pub struct Kind {
 #[derive(Clone)]
 pub enum Inputs {
     /// Bits of a Real. Where most values below zero are refused, few are
-    /// tried; `exponents` are the exponent fields worth trying most.
+    /// tried; `exponents` are the exponent fields worth trying most. Where the
+    /// Real is a time, `units` are the counts in a second that it becomes.
     Real {
         both_signs: bool,
         exponents: RangeInclusive<u32>,
+        units: Option<u128>,
     },
     TimerCount,
     OperatingCount,
@@ -29,6 +31,15 @@ const fn real(both_signs: bool, exponents: RangeInclusive<u32>) -> Inputs {
     Inputs::Real {
         both_signs,
         exponents,
+        units: None,
+    }
+}
+
+const fn time(both_signs: bool, exponents: RangeInclusive<u32>, units: u128) -> Inputs {
+    Inputs::Real {
+        both_signs,
+        exponents,
+        units: Some(units),
     }
 }
 
@@ -42,12 +53,20 @@ const fn kind(name: &'static str, result: fn(u32) -> Option<u32>, inputs: Inputs
 
 /// An exponent field of 127 stands for values from 1 up to 2.
 pub static KINDS: [Kind; 15] = [
-    kind("wt", results::timer_written, real(true, 117..=149)),
-    kind("wp", results::preset_written, real(false, 117..=149)),
+    kind(
+        "wt",
+        results::timer_written,
+        time(true, 117..=149, TIMER_UNITS),
+    ),
+    kind(
+        "wp",
+        results::preset_written,
+        time(false, 117..=149, TIMER_UNITS),
+    ),
     kind(
         "wo",
         results::operating_time_written,
-        real(false, 122..=155),
+        time(false, 122..=155, OPERATING_UNITS),
     ),
     kind("wl", results::current_limit_written, real(false, 100..=126)),
     kind("wc", results::out_current_written, real(true, 100..=130)),

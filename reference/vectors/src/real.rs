@@ -53,6 +53,25 @@ impl Finite {
         whole.cmp(&count).then(rest.cmp(&false))
     }
 
+    /// The count of units of 1/`per_one` nearest to the magnitude; a tie goes to
+    /// the even count.
+    ///
+    /// Found by the meaning of the word: the magnitude lies between two counts,
+    /// and is nearer to the lower one where magnitude - below < above -
+    /// magnitude, that is where twice the magnitude is less than their sum.
+    pub fn nearest_count(&self, per_one: u128) -> u128 {
+        let (below, rest) = self.units(per_one);
+        if !rest {
+            return below;
+        }
+        let above = below + 1;
+        match self.magnitude_to(below + above, 2 * per_one) {
+            Ordering::Less => below,
+            Ordering::Greater => above,
+            Ordering::Equal => below + below % 2,
+        }
+    }
+
     /// Value < bound, for a bound above 0.
     pub fn is_below(&self, bound: u128) -> bool {
         self.negative || self.magnitude_to(bound, 1).is_lt()

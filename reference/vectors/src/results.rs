@@ -27,15 +27,14 @@ fn signed(word: u32) -> i64 {
     }
 }
 
-/// A Real time from -`minus` up to, not including, `end`, as a count. The
-/// range is tested on the Real itself, before the rest is dropped.
+/// A Real time from -`minus` up to, not including, `end`, as the nearest count.
+/// The range is tested on the Real itself, before rounding.
 fn time_written(bits: u32, minus: u128, end: u128, units: u128) -> Option<u32> {
     let real = Finite::from_bits(bits)?;
     if !real.is_at_least_minus(minus) || !real.is_below(end) {
         return None;
     }
-    let (whole, _dropped) = real.units(units);
-    let magnitude = i64::try_from(whole).expect("in range");
+    let magnitude = i64::try_from(real.nearest_count(units)).expect("in range");
     Some(word(if real.negative { -magnitude } else { magnitude }))
 }
 

@@ -1,10 +1,19 @@
 //! A second opinion from the machine's own float and integer arithmetic.
 
+mod times;
+
 use std::collections::HashSet;
 
 use crate::kinds::{Kind, KINDS};
 use crate::random::Random;
 use crate::{input_line, output_line, words_of};
+
+/// What `f64::round_ties_even` gives, which Rust 1.63 doesn't have: the machine
+/// rounds the sum so, and its last bit is worth 1. For numbers below 2^51.
+fn round_ties_even(number: f64) -> f64 {
+    const LAST_BIT_IS_ONE: f64 = 6_755_399_441_055_744.0;
+    number + LAST_BIT_IS_ONE - LAST_BIT_IS_ONE
+}
 
 /// Every step in f64 is exact here, so the only rounding is the last one.
 fn machine_result(name: &str, word: u32) -> Option<u32> {
@@ -12,11 +21,11 @@ fn machine_result(name: &str, word: u32) -> Option<u32> {
     let exact = f64::from(real);
     let count = word as i32;
     let [_, _, high, low] = word.to_be_bytes();
-    let timer = || (exact * 256.0).trunc() as i32 as u32;
+    let timer = || round_ties_even(exact * 256.0) as i32 as u32;
     Some(match name {
         "wt" if (-8388608.0..8388608.0).contains(&exact) => timer(),
         "wp" if (0.0..8388608.0).contains(&exact) => timer(),
-        "wo" if (0.0..536870912.0).contains(&exact) => (exact * 8.0).trunc() as u32,
+        "wo" if (0.0..536870912.0).contains(&exact) => round_ties_even(exact * 8.0) as u32,
         "wl" if (0.0..=1.0).contains(&real) => word,
         "wc" if real.is_finite() => word,
         "wt" | "wp" | "wo" | "wl" | "wc" => return None,
@@ -110,12 +119,14 @@ fn negative_zero_and_less() {
     }
 }
 
+fn all_lines() -> HashSet<String> {
+    let line = |(kind, word)| output_line(kind, word);
+    all_vectors().into_iter().map(line).collect()
+}
+
 #[test]
 fn table_words_are_among_the_vectors() {
-    let lines: HashSet<String> = all_vectors()
-        .into_iter()
-        .map(|(kind, word)| output_line(kind, word))
-        .collect();
+    let lines = all_lines();
     for line in [
         "wt 3f800000 00000100",
         "wt 3b800000 00000001",
@@ -135,7 +146,7 @@ fn table_words_are_among_the_vectors() {
 fn lines_are_unique_and_each_kind_is_present() {
     let vectors = all_vectors();
     assert!(
-        (8_000..=12_000).contains(&vectors.len()),
+        (8_000..=14_000).contains(&vectors.len()),
         "{}",
         vectors.len()
     );

@@ -8,6 +8,20 @@ use crate::random::Random;
 use crate::real::{nearest, Finite, INFINITY, QUIET_NAN, SIGN};
 use crate::results::{OPERATING_UNITS, TIMER_UNITS};
 
+/// 0.1 s to 1.0 s, each as the Real nearest to it.
+pub const TYPED: [u32; 10] = [
+    0x3dcc_cccd,
+    0x3e4c_cccd,
+    0x3e99_999a,
+    0x3ecc_cccd,
+    0x3f00_0000,
+    0x3f19_999a,
+    0x3f33_3333,
+    0x3f4c_cccd,
+    0x3f66_6666,
+    0x3f80_0000,
+];
+
 /// The chosen words in the order of their first choice, none twice.
 struct Words {
     list: Vec<u32>,
@@ -25,7 +39,8 @@ pub fn words(inputs: &Inputs, seed: u64) -> Vec<u32> {
         Inputs::Real {
             both_signs,
             exponents,
-        } => words.reals(both_signs, exponents),
+            units,
+        } => words.reals(both_signs, exponents, units),
         Inputs::TimerCount => words.timer_counts(),
         Inputs::OperatingCount => words.operating_counts(),
         Inputs::StepCount => words.step_counts(),
@@ -53,12 +68,15 @@ impl Words {
         }
     }
 
-    fn reals(&mut self, both_signs: bool, exponents: RangeInclusive<u32>) {
+    fn reals(&mut self, both_signs: bool, exponents: RangeInclusive<u32>, units: Option<u128>) {
         self.real_landmarks();
         self.real_powers_of_two();
         let signs: &[u32] = if both_signs { &[0, SIGN] } else { &[0] };
         for &sign in signs {
             self.reals_beside_counts(sign);
+        }
+        if let Some(units) = units {
+            self.rounded_times(units);
         }
         for turn in 0..10 {
             let sign = signs[turn % signs.len()];
@@ -121,6 +139,45 @@ impl Words {
                     self.add(bits | sign);
                 }
             }
+        }
+    }
+
+    /// Below 0 too where that is refused: the range is tested before rounding.
+    fn rounded_times(&mut self, units: u128) {
+        for sign in [0, SIGN] {
+            self.real_ties(sign, units);
+            self.typed_times(sign);
+        }
+    }
+
+    /// Half way between two counts, even and odd ones below, with the patterns
+    /// beside each: the smallest, the largest that a Real can hold, and two of
+    /// every width between.
+    fn real_ties(&mut self, sign: u32, units: u128) {
+        // Twice a tie is an odd number, of which a Real holds 24 bits.
+        let largest = (1 << 23) - 1;
+        let mut below: Vec<u32> = (0..16).chain(largest - 3..=largest).collect();
+        for width in 5..=23 {
+            let count = self.random.of_width(width);
+            below.extend([count & !1, count | 1]);
+        }
+        for count in below {
+            let tie = nearest(u128::from(2 * count + 1), 2 * units);
+            self.add_three(tie, sign);
+        }
+    }
+
+    /// Times as an installer types them, with the patterns beside each.
+    fn typed_times(&mut self, sign: u32) {
+        for bits in TYPED {
+            self.add_three(bits, sign);
+        }
+    }
+
+    /// A pattern and the two beside it, with a sign.
+    fn add_three(&mut self, bits: u32, sign: u32) {
+        for beside in [bits - 1, bits, bits + 1] {
+            self.add(beside | sign);
         }
     }
 

@@ -44,5 +44,6 @@ worked-wire =
       written = refl;
       service = refl;
       limits = refl;
+      nearest = refl;
       refusals = refl;
     }

@@ -1,8 +1,21 @@
 -- Worked boxes: registers read, written and reset, their ranges, and refusals. The proof is in proofs/Worked/Wire.antt.
-use mathlib.Core.List.{[], _∷_}
+use mathlib.Core.List.{List, [], _∷_}
+use Prim.Native.Nat.{ℕ}
 use Rattle.model.specs.Calls.{tick}
 use Rattle.model.specs.Worked.{one, two, four, words, calm, past, _then_, reads, writes, refusedWrite, refusedRead, takes, ticks}
-use Rattle.model.specs.Worked.{wordsFrom, Plays, wireBox}
+use Rattle.model.specs.Worked.{Case, wordsFrom, Plays, wireBox}
+
+-- this Real written to a register, and that one read
+abbrev pub writesReads : ℕ → ℕ → ℕ → List Case
+writesReads n x y = writes n (four x) past then reads n (four y) past
+
+-- of a timer or a preset: 0.3 s, and 1.5 and 2.5 counts
+abbrev pub rounds : ℕ → List Case
+rounds n = writesReads n 0x3E99_999A 0x3E9A_0000 then writesReads n 0x3BC0_0000 0x3C00_0000 then writesReads n 0x3C20_0000 0x3C00_0000
+
+-- of a timer: -1.5 and -0.5 counts
+abbrev pub roundsBelow : ℕ → List Case
+roundsBelow n = writesReads n 0xBBC0_0000 0xBC00_0000 then writesReads n 0xBB00_0000 0
 
 pub record Wire : Type 0 where
   -- Registers and Setup image 2: what each register reads after power-up; reading CommonError acknowledges His bit 7
@@ -38,7 +51,7 @@ pub record Wire : Type 0 where
       then reads 0x09 (four 0x7110_7273) past then reads 0x0A (four 0x4000_0000) past then reads 0x08 (four 0x4000_0000) past
       then reads 0x0D (one 0x00) past then refusedWrite 6 0x09 (four 0) past then refusedWrite 6 0x0A (four 0) past
       then reads 0x0A (four 0x4000_0000) past)
-  -- Time and amperes 2 to 5 and question 7: the ends of each register's range, -0, NaN and infinity; what the last accepted value reads
+  -- Time and amperes 3 to 5, Change 5, 2 and 3, and question 7: the ends of each register's range, -0, NaN and infinity; what the last accepted value reads
   pub limits : Plays wireBox
       (writes 0x0D (one 0x01) past then writes 0x11 (four 0x4AFF_FFFF) past then refusedWrite 7 0x11 (four 0x4B00_0000) past
       then writes 0x11 (four 0xCB00_0000) past then refusedWrite 7 0x11 (four 0xCB00_0001) past then writes 0x11 (four 0x8000_0000) past
@@ -47,10 +60,10 @@ pub record Wire : Type 0 where
       then refusedWrite 7 0x16 (four 0x4B00_0000) past then writes 0x16 (four 0xCB00_0000) past then refusedWrite 7 0x16 (four 0xCB00_0001) past
       then writes 0x16 (four 0x8000_0000) past then writes 0x16 (four 0x8000_0001) past then refusedWrite 7 0x16 (four 0x7F80_0000) past
       then refusedWrite 7 0x16 (four 0xFF80_0000) past then refusedWrite 7 0x16 (four 0x7FC0_0000) past then writes 0x16 (four 0xBFFF_FFFF) past
-      then reads 0x16 (four 0xBFFF_8000) past then writes 0x17 (four 0x4AFF_FFFF) past then refusedWrite 7 0x17 (four 0x4B00_0000) past
+      then reads 0x16 (four 0xC000_0000) past then writes 0x17 (four 0x4AFF_FFFF) past then refusedWrite 7 0x17 (four 0x4B00_0000) past
       then writes 0x17 (four 0) past then writes 0x17 (four 0x8000_0000) past then refusedWrite 7 0x17 (four 0x8000_0001) past
       then refusedWrite 7 0x17 (four 0xCB00_0000) past then refusedWrite 7 0x17 (four 0x7F80_0000) past
-      then refusedWrite 7 0x17 (four 0x7FC0_0000) past then writes 0x17 (four 0x3FFF_FFFF) past then reads 0x17 (four 0x3FFF_8000) past
+      then refusedWrite 7 0x17 (four 0x7FC0_0000) past then writes 0x17 (four 0x3FFF_FFFF) past then reads 0x17 (four 0x4000_0000) past
       then writes 0x18 (four 0x4AFF_FFFF) past then refusedWrite 7 0x18 (four 0x4B00_0000) past then writes 0x18 (four 0) past
       then writes 0x18 (four 0x8000_0000) past then refusedWrite 7 0x18 (four 0x8000_0001) past then refusedWrite 7 0x18 (four 0xCB00_0000) past
       then refusedWrite 7 0x18 (four 0x7F80_0000) past then refusedWrite 7 0x18 (four 0x7FC0_0000) past then writes 0x18 (four 0x4049_0FDB) past
@@ -63,7 +76,7 @@ pub record Wire : Type 0 where
       then refusedWrite 7 0x08 (four 0x7FC0_0000) past then reads 0x0A (four 0) past then writes 0x14 (four 0x4DFF_FFFF) past
       then refusedWrite 7 0x14 (four 0x4E00_0000) past then writes 0x14 (four 0x8000_0000) past then refusedWrite 7 0x14 (four 0x8000_0001) past
       then refusedWrite 7 0x14 (four 0xBF80_0000) past then refusedWrite 7 0x14 (four 0x7F80_0000) past
-      then refusedWrite 7 0x14 (four 0x7FC0_0000) past then writes 0x14 (four 0x3FFF_FFFF) past then reads 0x14 (four 0x3FF0_0000) past
+      then refusedWrite 7 0x14 (four 0x7FC0_0000) past then writes 0x14 (four 0x3FFF_FFFF) past then reads 0x14 (four 0x4000_0000) past
       then writes 0x14 (four 0x4DFF_FFFF) past then reads 0x14 (four 0x4DFF_FFFF) past then writes 0x1A (four 0) past
       then writes 0x1A (four 0x3F80_0000) past then refusedWrite 7 0x1A (four 0x3F80_0001) past then writes 0x1A (four 0x8000_0000) past
       then refusedWrite 7 0x1A (four 0x8000_0001) past then refusedWrite 7 0x1A (four 0xBF80_0000) past
@@ -71,6 +84,13 @@ pub record Wire : Type 0 where
       then writes 0x1B (four 0) past then writes 0x1B (four 0x3F80_0000) past then refusedWrite 7 0x1B (four 0x3F80_0001) past
       then writes 0x1B (four 0x8000_0000) past then refusedWrite 7 0x1B (four 0x8000_0001) past then refusedWrite 7 0x1B (four 0xBF80_0000) past
       then refusedWrite 7 0x1B (four 0x7F80_0000) past then refusedWrite 7 0x1B (four 0x7FC0_0000) past then reads 0x1B (four 0x8000_0000) past)
+  -- Change 5, 1 and 2: every written time is the nearest count, and the even one at a tie. WDTimer then reads what WDPreset has. OperatingTime in eighths:
+  -- 0.3 s, 0.4 s, one and a half, two and a half
+  pub nearest : Plays wireBox
+      (writes 0x0D (one 0x01) past then rounds 0x11 then roundsBelow 0x11 then rounds 0x16 then roundsBelow 0x16 then rounds 0x13A then roundsBelow 0x13A
+      then rounds 0x13B then roundsBelow 0x13B then rounds 0x17 then rounds 0x18 then rounds 0x0A then writes 0x08 (four 0x3E99_999A) past
+      then reads 0x08 (four 0x3C00_0000) past then writesReads 0x14 0x3E99_999A 0x3E80_0000 then writesReads 0x14 0x3ECC_CCCD 0x3EC0_0000
+      then writesReads 0x14 0x3E40_0000 0x3E80_0000 then writesReads 0x14 0x3EA0_0000 0x3E80_0000)
   -- Questions 1 to 7: refusals by each number; CommonError takes zeros alone; a refused read acknowledges nothing, and every wire call presets WDTimer
   pub refusals : Plays wireBox
       (refusedRead 5 0x0F 11 past then reads 0x10 (one 0x00) past then reads 0x0F (words (0x8000_0000 ∷ 0 ∷ 0 ∷ [])) past

@@ -39,12 +39,12 @@ sign-test per (fin true (suc m) e) =
     (lt-ltb 0 (suc m * up e * 1 + 0 * down e) (lt-of-lt-of-le (lt-of-lt-of-le (mul-pos (zero-lt-suc m) (up-pos e)) (le-of-eq (sym (mul-one (suc m * up e)))))
     (le-add-right (suc m * up e * 1) (0 * down e))))
 
--- ---- a magnitude below 2 ^ 32 in a signed local of 64 bits, and less than 0
-mag-minus : (n : ℕ) → n < 4294967296 → mag (negℤ (pos n)) < 9223372036854775808
+-- ---- a magnitude up to 2 ^ 32 in a signed local of 64 bits, and less than 0
+mag-minus : (n : ℕ) → n ≤ 4294967296 → mag (negℤ (pos n)) < 9223372036854775808
 mag-minus zero h = omega arith
 mag-minus (suc n) h = omega arith
 
-module _ (n : ℕ) (N : n < 4294967296) where
+module _ (n : ℕ) (N : n ≤ 4294967296) where
   held : n < 9223372036854775808
   held = omega arith
 

@@ -1,22 +1,21 @@
 -- A finite Real's size in units of 2 ^ -u as a whole number, from the fields of its bits, for a u up to 8: it is s * 256 / 2 ^ (158 - u - x), with x the
--- exponent's field and s the 24 digits.
--- Of the definition `whole` this uses the two laws `whole-same` and `whole-small` alone. Assumes nothing.
-use mathlib.Core.Path.{_≡_, refl, sym, ap, _∙_, subst}
-use mathlib.Core.Logic.{_⊎_, inl, inr}
+-- exponent's field and s the 24 digits. Assumes nothing.
+use mathlib.Core.Path.{_≡_, sym, ap, _∙_, subst}
 use mathlib.Core.Bool.{Bool, true, false, not, cond}
 use Prim.Native.Nat.{ℕ, zero, suc, _+_, _-_, _*_, _/_, _%_, _^_, _≤_, _<_, zero-le}
 use native.Mathlib.Nat.{le-trans, le-of-eq, lt-of-lt-of-le, lt-of-le-of-lt, lt-of-not-le, not-le-of-lt, mul-assoc, mul-one, one-mul, mul-right-comm}
-use native.Mathlib.Nat.{mul-le-mul-right, mul-le-mul-left, mul-lt-mul-of-pos-right, lt-of-mul-lt-mul-right, mod-lt, mod-eq-of-lt, le-add-right}
+use native.Mathlib.Nat.{mul-le-mul-right, mul-lt-mul-of-pos-right, lt-of-mul-lt-mul-right, mod-lt, mod-eq-of-lt, le-add-right}
 use native.Mathlib.Omega.{arith}
-use lib.Dec.{T, leb, leb→le, nleb→lt, eqb, ltb→lt, lit<, lit≤}
+use lib.Dec.{T, leb, eqb, ltb→lt, lit<, lit≤}
 use lib.Pow.{pow-add, pow-pos, pow-mono, pow-lt, mod-mod-pow}
 use lib.Ieee.{Float, nan, inf, fin, binary32, up, down, odd, isNan, fits, toBits, ofBits, ofFields}
 use lib.Ieee.Bits.{ofBits-toBits}
 use lib.Ieee.Fits.{down-pos}
+use lib.Ieee.Nearest.{closest}
 use lib.Ieee.Exact.{HasValue, odd-sign}
 use lib.Ieee.Scale.{finite}
 use Rattle.numbers.specs.Reals.{whole, unitsOf, under}
-use Rattle.numbers.proofs.Laws.Whole.{whole-same, whole-small, whole-up-to}
+use Rattle.numbers.proofs.Laws.Whole.{whole-closest, whole-same, whole-small}
 
 -- ---- the fields of a finite value's bits
 digits : ℕ → ℕ → ℕ
@@ -65,15 +64,15 @@ under-value per high (fin t m e) s a v h =
     (lt-of-lt-of-le (mul-lt-mul-of-pos-right (ltb→lt (m * up e * per) (high * down e) h) (pow-pos 149)) (le-of-eq (mul-right-comm high (down e) (2 ^ 149)))))
 
 -- ---- the exponent's field
-field-high : (j x t u : ℕ) → u ≤ j → digits x t * 2 ^ u < 2 ^ (23 + j) → x ≤ j - u
+field-high : (x t u : ℕ) → u ≤ 158 → digits x t * 2 ^ u < 2 ^ 181 → x ≤ 158 - u
 unfolding digits
-field-high j zero t u U h = zero-le
-field-high j (suc x) t u U h = lt-of-not-le (λ (g : j - u ≤ x). not-le-of-lt h (big g))
+field-high zero t u U h = zero-le
+field-high (suc x) t u U h = lt-of-not-le (λ (g : 158 - u ≤ x). not-le-of-lt h (big g))
   where
-    far : j - u ≤ x → 23 + j ≤ 23 + x + u
+    far : 158 - u ≤ x → 181 ≤ 23 + x + u
     far g = omega arith
 
-    big : j - u ≤ x → 2 ^ (23 + j) ≤ (8388608 + t) * 2 ^ x * 2 ^ u
+    big : 158 - u ≤ x → 2 ^ 181 ≤ (8388608 + t) * 2 ^ x * 2 ^ u
     big g =
         le-trans (pow-mono (far g))
         (le-trans (le-of-eq (pow-add 2 (23 + x) u ∙ ap (λ (y : ℕ). y * 2 ^ u) (pow-add 2 23 x)))
@@ -138,7 +137,7 @@ module _ (x : Float) (u : ℕ) (F : T (fits binary32 x)) (U : u ≤ 8) (R : T (u
       (subst (λ (y : Float). T (finite y)) (sym (ofBits-toBits binary32 x F)) (under-finite (2 ^ u) 4294967296 x R)))
 
   pub field-le : expo x ≤ 158 - u
-  field-le = field-high 158 (expo x) (frac x) u (le-trans U (lit≤ tt)) (under-value (2 ^ u) 4294967296 x (sign x) (digits (expo x) (frac x)) value R)
+  field-le = field-high (expo x) (frac x) u (le-trans U (lit≤ tt)) (under-value (2 ^ u) 4294967296 x (sign x) (digits (expo x) (frac x)) value R)
 
   pub units-zero : expo x < 100 → 0 ≡ unitsOf (2 ^ u) x
   units-zero h =
@@ -163,55 +162,16 @@ module _ (x : Float) (u : ℕ) (F : T (fits binary32 x)) (U : u ≤ 8) (R : T (u
       few : 158 - u - expo x < 63
       few = omega arith
 
-  pub field-half : T (under (2 ^ u) 2147483648 x) → expo x ≤ 157 - u
-  field-half S = field-high 157 (expo x) (frac x) u (le-trans U (lit≤ tt)) (under-value (2 ^ u) 2147483648 x (sign x) (digits (expo x) (frac x)) value S)
-
-  pub units-digits : 100 ≤ expo x
+  units-digits : 100 ≤ expo x
       → whole ((8388608 + frac x) * 256) (2 ^ (158 - u - expo x)) ≡ unitsOf (2 ^ u) x
   units-digits h =
       shifted (expo x) (frac x) u U h field-le
       ∙ sym (units-value (2 ^ u) x (sign x) (digits (expo x) (frac x)) value)
 
   pub units-shifted : 100 ≤ expo x
-      → whole ((8388608 + toBits binary32 x % 2147483648 % 8388608) * 256) (1 * 2 ^ (158 - u - expo x) % 18446744073709551616) ≡ unitsOf (2 ^ u) x
+      → closest ((8388608 + toBits binary32 x % 2147483648 % 8388608) * 256) (1 * 2 ^ (158 - u - expo x) % 18446744073709551616) ≡ unitsOf (2 ^ u) x
   units-shifted h =
-      ap (λ (y : ℕ). whole ((8388608 + toBits binary32 x % 2147483648 % 8388608) * 256) y) (shift-is h)
+      whole-closest ((8388608 + toBits binary32 x % 2147483648 % 8388608) * 256) (1 * 2 ^ (158 - u - expo x) % 18446744073709551616)
+      ∙ ap (λ (y : ℕ). whole ((8388608 + toBits binary32 x % 2147483648 % 8388608) * 256) y) (shift-is h)
       ∙ ap (λ (y : ℕ). whole ((8388608 + y) * 256) (2 ^ (158 - u - expo x))) (mod-mod-pow (toBits binary32 x) 8 23)
       ∙ units-digits h
-
-decide : (a b : ℕ) → (a ≤ b) ⊎ (b < a)
-decide a b = go (leb a b) (leb→le a b) (nleb→lt a b)
-  where
-    go : (t : Bool) → (T t → a ≤ b) → (T (not t) → b < a) → (a ≤ b) ⊎ (b < a)
-    go true f g = inl (f tt)
-    go false f g = inr (g tt)
-
--- ---- how large the whole number can be: the 24 digits leave room below the range's end
-digits-lt : (t : ℕ) → t < 8388608 → 8388608 + t ≤ 16777215
-digits-lt t h = omega arith
-
-pow-even : (k : ℕ) → 0 < k → 2 ≤ 2 ^ k
-pow-even k h = le-trans (le-of-eq refl) (pow-mono {i = 1} h)
-
--- at a divisor 2 ^ k with k no less than j: at most 16777215 * 256 / 2 ^ j
-room : (h s c p : ℕ) → s ≤ 16777215 → c ≤ p → 16777215 * 256 ≡ h * c → s * 256 ≤ h * p
-room h s c p S C e = le-trans (mul-le-mul-right 256 S) (le-trans (le-of-eq e) (mul-le-mul-left h C))
-
-module _ (x : Float) (u : ℕ) (F : T (fits binary32 x)) (U : u ≤ 8) where
-  units-by : (h c : ℕ) → (R : T (under (2 ^ u) 4294967296 x)) → 16777215 * 256 ≡ h * c → (100 ≤ expo x → c ≤ 2 ^ (158 - u - expo x)) → unitsOf (2 ^ u) x ≤ h
-  units-by h c R e k = elim (decide 100 (expo x)) [
-    | inl l ↦
-        le-trans (le-of-eq (sym (units-digits x u F U R l)))
-        (whole-up-to ((8388608 + frac x) * 256) (2 ^ (158 - u - expo x)) h (pow-pos (158 - u - expo x))
-        (room h (8388608 + frac x) c (2 ^ (158 - u - expo x)) (digits-lt (frac x) (mod-lt (toBits binary32 x) (lit< tt))) (k l) e))
-    | inr g ↦ le-trans (le-of-eq (sym (units-zero x u F U R g))) zero-le
-  ]
-
-  pub units-32 : T (under (2 ^ u) 4294967296 x) → unitsOf (2 ^ u) x < 4294967296
-  units-32 R = lt-of-le-of-lt (units-by 4294967040 1 R refl (λ l. pow-pos (158 - u - expo x))) (lit< tt)
-
-  pub units-31 : T (under (2 ^ u) 2147483648 x) → T (under (2 ^ u) 4294967296 x) → unitsOf (2 ^ u) x < 2147483648
-  units-31 S R = lt-of-le-of-lt (units-by 2147483520 2 R refl (λ l. pow-even (158 - u - expo x) (one-left (field-half x u F U R S)))) (lit< tt)
-    where
-      one-left : expo x ≤ 157 - u → 0 < 158 - u - expo x
-      one-left h = omega arith

@@ -1,8 +1,9 @@
 -- What the range tests tell of a Real: how large it is in units of 1 / per, and so that its count fits. Assumes nothing.
 use mathlib.Core.Path.{_≡_, refl, sym, ap, _∙_, subst}
+use mathlib.Core.Logic.{inl, inr}
 use mathlib.Core.Bool.{Bool, true, false, _&&_, _||_}
 use Prim.Native.Nat.{ℕ, zero, suc, _+_, _*_, _^_, _≤_, _<_}
-use native.Mathlib.Nat.{le-trans, le-of-eq, lt-of-lt-of-le, lt-of-le-of-lt, one-mul, mul-one, zero-mul, mul-right-comm, mul-le-mul-right}
+use native.Mathlib.Nat.{le-trans, le-of-eq, le-of-lt, eq-or-lt-of-le, lt-of-lt-of-le, lt-of-le-of-lt, one-mul, mul-one, zero-mul, mul-right-comm, mul-le-mul-right}
 use native.Mathlib.Nat.{mul-lt-mul-of-pos-right, mul-pos}
 use native.Mathlib.Omega.{arith}
 use lib.Dec.{T, ltb, eqb, ltb→lt, lt→ltb, eqb→eq, lit<, lit≤}
@@ -11,7 +12,7 @@ use lib.Pow.{pow-pos}
 use lib.Signed.{mag}
 use lib.Ieee.{Float, nan, inf, fin, binary32, up, down, le, lt, fits, ofInt}
 use lib.Ieee.Bits.{is-true}
-use lib.Ieee.Fits.{down-pos}
+use lib.Ieee.Fits.{down-pos, eq→eqb}
 use mir.Syntax.{w32}
 use mir.Val.{SFits}
 use mir.Facts.{yes-and}
@@ -19,7 +20,7 @@ use borrow.Author.Tests.{lt-ltb}
 use Rattle.numbers.specs.Reals.{whole, unitsOf, countOf, under}
 use Rattle.numbers.specs.Written.{from, below, timerAllowed, presetAllowed, operatingAllowed}
 use Rattle.numbers.proofs.Laws.Whole.{whole-small, whole-up-to}
-use Rattle.numbers.proofs.Laws.FromReal.{units-31, units-32}
+use Rattle.numbers.proofs.Laws.Inside.{units-inside}
 
 -- ---- what a test says of a finite Real
 both : (a b : Bool) → T (a && b) → T a × T b
@@ -29,13 +30,24 @@ both false b t = absurd t
 le-test : (a b : ℕ) (c : Bool) → T (ltb b a || (eqb a b && c)) → b ≤ a
 le-test a b c t = go (ltb b a) (eqb a b) (ltb→lt b a) (eqb→eq a b) t
   where
-    weak : b < a → b ≤ a
-    weak h = omega arith
-
     go : (p q : Bool) → (T p → b < a) → (T q → a ≡ b) → T (p || (q && c)) → b ≤ a
-    go true q f g t = weak (f tt)
+    go true q f g t = le-of-lt (f tt)
     go false true f g t = le-of-eq (sym (g tt))
     go false false f g t = absurd t
+
+less : (a b : ℕ) (c : Bool) → a < b → T (ltb a b || c)
+less a b c h = subst (λ (t : Bool). T (t || c)) (sym (lt-ltb a b h)) tt
+
+pub le-made : (a b : ℕ) → b ≤ a → T (ltb b a || (eqb a b && true))
+le-made a b h = elim (eq-or-lt-of-le h) [
+  | inl e ↦ go (ltb b a) (eqb a b) (eq→eqb (sym e))
+  | inr l ↦ less b a _ l
+]
+  where
+    go : (p q : Bool) → T q → T (p || (q && true))
+    go true q t = tt
+    go false true t = tt
+    go false false t = absurd t
 
 module _ (k m : ℕ) (e : ℤ) where
   -- m * 2 ^ e < 2 ^ k
@@ -49,7 +61,7 @@ module _ (k m : ℕ) (e : ℤ) where
   lower t = simp (mul-one, one-mul) at (le-test (1 * 2 ^ k * down e) (m * up e * 1) true t)
 
 -- 0 ≤ −m * 2 ^ e: only −0 passes
-none : (m : ℕ) (e : ℤ) → T (le (fin false 0 (pos 0)) (fin true m e)) → m * up e ≡ 0
+pub none : (m : ℕ) (e : ℤ) → T (le (fin false 0 (pos 0)) (fin true m e)) → m * up e ≡ 0
 unfolding le
 none m e t = sym (simp (mul-one, zero-mul) at (eqb→eq (0 * down e) (m * up e * 1) (both (eqb (0 * down e) (m * up e * 1)) _ t .0)))
 
@@ -87,9 +99,6 @@ natural-count per (fin true m e) l =
 wider : (a d : ℕ) → 0 < d → a ≤ 2147483648 * d → a < 4294967296 * d
 wider a d D l = omega arith
 
-weaken : (a b : ℕ) → a < b → a ≤ b
-weaken a b h = omega arith
-
 mag-minus : (n : ℕ) → n ≤ 2147483648 → mag (negℤ (pos n)) < 2147483648
 mag-minus zero h = lit< tt
 mag-minus (suc n) h = h
@@ -101,7 +110,7 @@ timer-under (inf true) t = t
 timer-under (inf false) t = both (from (negℤ (pos 8388608)) (inf false)) (below (pos 8388608) (inf false)) t .1
 timer-under (fin false m e) t =
     lt→ltb (m * up e * 256) (4294967296 * down e)
-    (wider (m * up e * 256) (down e) (down-pos e) (weaken (m * up e * 256) (2147483648 * down e)
+    (wider (m * up e * 256) (down e) (down-pos e) (le-of-lt
     (scaled-below 256 8388608 m e (upper 23 m e (both (from (negℤ (pos 8388608)) (fin false m e)) (below (pos 8388608) (fin false m e)) t .1)) (lit< tt))))
 timer-under (fin true m e) t =
     lt→ltb (m * up e * 256) (4294967296 * down e)
@@ -115,9 +124,8 @@ timer-fits (inf true) F t = absurd t
 timer-fits (inf false) F t = absurd (both (from (negℤ (pos 8388608)) (inf false)) (below (pos 8388608) (inf false)) t .1)
 timer-fits (fin false m e) F t =
     record {
-      sfits = units-31 (fin false m e) 8 F (lit≤ tt) (lt→ltb (m * up e * 256) (2147483648 * down e)
-          (scaled-below 256 8388608 m e (upper 23 m e (both (from (negℤ (pos 8388608)) (fin false m e)) (below (pos 8388608) (fin false m e)) t .1)) (lit< tt)))
-          (timer-under (fin false m e) t);
+      sfits = units-inside 256 8388608 (fin false m e) (lit≤ tt) F (lt→ltb (m * up e * 1) (8388608 * down e)
+          (scaled-below 1 8388608 m e (upper 23 m e (both (from (negℤ (pos 8388608)) (fin false m e)) (below (pos 8388608) (fin false m e)) t .1)) (lit< tt)));
     }
 timer-fits (fin true m e) F t = record {
   sfits = mag-minus (whole (m * up e * 256) (down e))
@@ -126,9 +134,6 @@ timer-fits (fin true m e) F t = record {
 }
 
 -- ---- WDTimer and the presets: 0 ≤ x < 8388608
-less : (a b : ℕ) (c : Bool) → a < b → T (ltb a b || c)
-less a b c h = subst (λ (t : Bool). T (t || c)) (sym (lt-ltb a b h)) tt
-
 from-lower : (x : Float) → T (from (pos 0) x) → T (from (negℤ (pos 8388608)) x)
 unfolding from ofInt le lt
 from-lower nan l = l
@@ -163,4 +168,6 @@ module _ (x : Float) (t : T (operatingAllowed x)) where
   operating-count = sym (natural-count 8 x (both (from (pos 0) x) (below (pos 536870912) x) t .0))
 
   pub operating-fits : T (fits binary32 x) → unitsOf 8 x < 4294967296
-  operating-fits F = units-32 x 3 F (lit≤ tt) operating-under
+  unfolding from below ofInt
+  operating-fits F = units-inside 8 536870912 x (lit≤ tt) F
+      (natural-under 1 29 (lit< tt) x (both (from (pos 0) x) (below (pos 536870912) x) t .0) (both (from (pos 0) x) (below (pos 536870912) x) t .1))

@@ -1,5 +1,6 @@
 mod calls;
 mod image_and_reset;
+mod nearest;
 mod quarters;
 mod questions;
 mod registers;

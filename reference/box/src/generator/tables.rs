@@ -44,6 +44,7 @@ const MIXED: Table = &[
     (1, act::many_ticks),
     (1, act::refused_sample),
     (1, act::read_data),
+    (1, act::write_rounded_time),
     (1, act::lookup),
     (1, act::charge),
     (1, act::refused_charge),

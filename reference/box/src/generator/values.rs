@@ -4,6 +4,7 @@
 mod charges;
 mod currents;
 mod lookups;
+mod nearest;
 mod numbers;
 mod operating;
 mod settings;
@@ -15,6 +16,7 @@ pub use charges::{
 };
 pub use currents::{current, quiet_current, refused_current, sample_current, tripping_current};
 pub use lookups::{table, x_for};
+pub use nearest::{half_count, rounded_time, ties, typed_time, Unit};
 pub use numbers::{end_count, end_real, limit, signed_time, small_count, time};
 pub use operating::{last_count, operating_time, refused_operating_time};
 pub use settings::{config, module_config, settings};

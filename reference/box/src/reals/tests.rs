@@ -1,3 +1,5 @@
+mod nearest;
+
 use super::*;
 
 const MINUS_ZERO: Real = SIGN;
@@ -80,33 +82,6 @@ fn limits_allow_zero_to_one() {
     }
     for real in [ONE + 1, MINUS_SMALLEST, INFINITY, NAN, SIGN | ONE] {
         assert!(!is_limit(real), "{real:08x}");
-    }
-}
-
-#[test]
-fn the_rest_is_dropped_toward_zero() {
-    assert_eq!(to_timer_count(0x3B7F_FFFF), 0);
-    assert_eq!(to_timer_count(0xBB7F_FFFF), 0);
-    assert_eq!(to_timer_count(0x3BFF_FFFF), 1);
-    assert_eq!(to_timer_count(0xBBFF_FFFF), -1);
-    assert_eq!(to_timer_count(MINUS_SMALLEST), 0);
-    assert_eq!(to_timer_count(MINUS_ZERO), 0);
-    assert_eq!(to_timer_count(0x4AFF_FFFF), 2_147_483_520);
-    assert_eq!(to_operating_count(0x3DFF_FFFF), 0);
-    assert_eq!(to_operating_count(0x3E00_0000), 1);
-    assert_eq!(to_operating_count(0x4DFF_FFFF), 0xFFFF_FF00);
-}
-
-#[test]
-fn written_counts_equal_exact_arithmetic() {
-    for real in samples() {
-        let exact = f64::from(f32::from_bits(real));
-        if is_timer(real) {
-            assert_eq!(to_timer_count(real), (exact * 256.0) as i32);
-        }
-        if is_operating(real) {
-            assert_eq!(to_operating_count(real), (exact * 8.0) as u32);
-        }
     }
 }
 

@@ -2,26 +2,21 @@
 use borrow.Author.Needs.{needs}
 use mathlib.Core.Path.{_≡_, sym, ap, _∙_, subst}
 use mathlib.Core.Bool.{Bool, true, false}
-use Prim.Native.Nat.{ℕ, _^_, _<_}
-use lib.Dec.{T}
-use lib.Ieee.{binary32, fits, lt, ofBits}
+use Prim.Native.Nat.{ℕ, _^_, _≤_}
+use lib.Ieee.{binary32, lt, ofBits}
 use Rattle.numbers.specs.Reals.{signed, unitsOf, countOf}
 use Rattle.numbers.proofs.Laws.Count.{sign-test, plus-fits, plus, minus-fits, minus-read}
-use Rattle.numbers.proofs.Laws.FromReal.{units-32}
+use Rattle.numbers.proofs.Laws.Inside.{units-up-to}
 use Rattle.numbers.proofs.times.count_of.Statement.{statement}
 use Rattle.numbers.proofs.times.count_of.Tie as tie
 
 units-of-requires : tie.Need-units-of-requires
 units-of-requires c κs = search needs
 
--- what owning an `f32` tells: the format holds it
-held : (c : tie.Start) → T (fits binary32 (c .args .x))
-held c = subst T (sym (c .good .0 .1)) tt
-
-small : (c : tie.After-units-of) → c .units-of .result < 4294967296
+small : (c : tie.After-units-of) → c .units-of .result ≤ 4294967296
 small c =
     let s = c .before in
-    subst (λ (n : ℕ). n < 4294967296) (sym (c .units-of .ensures)) (units-32 (s .args .x) (s .args .unit) (held s) (s .pre .0) (s .pre .1))
+    subst (λ (n : ℕ). n ≤ 4294967296) (sym (c .units-of .ensures)) (units-up-to (2 ^ s .args .unit) 4294967296 (s .args .x) (s .pre .1))
 
 cast-n : tie.Need-cast-n
 cast-n c = plus-fits (c .units-of .result) (small c)

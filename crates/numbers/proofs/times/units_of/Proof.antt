@@ -33,14 +33,14 @@ shl-divisor c = search needs
 add-digits : tie.Need-add-digits
 add-digits c = search needs
 
-cast-whole-quotient : tie.Need-cast-whole-quotient
-cast-whole-quotient c = search needs
+cast-nearest-quotient : tie.Need-cast-nearest-quotient
+cast-nearest-quotient c = search needs
 
-mul-whole-quotient : tie.Need-mul-whole-quotient
-mul-whole-quotient c = search needs
+mul-nearest-quotient : tie.Need-mul-nearest-quotient
+mul-nearest-quotient c = search needs
 
-whole-quotient-requires : tie.Need-whole-quotient-requires
-whole-quotient-requires c κs =
+nearest-quotient-requires : tie.Need-nearest-quotient-requires
+nearest-quotient-requires c κs =
     let s = c .before in (
       omega arith,
       shift-pos (s .args .x) (s .args .unit) (held s) (s .pre .0) (s .pre .1) (c .if1 .left),
@@ -49,7 +49,7 @@ whole-quotient-requires c κs =
     )
 
 returns-2 : tie.Need-returns-2
-returns-2 c = let s = c .before .before in c .whole-quotient .ensures ∙ units-shifted (s .args .x) (s .args .unit) (held s) (s .pre .0) (s .pre .1)
+returns-2 c = let s = c .before .before in c .nearest-quotient .ensures ∙ units-shifted (s .args .x) (s .args .unit) (held s) (s .pre .0) (s .pre .1)
     (c .before .if1 .left)
 
 pub units-of-spec : {M : Type 1} → statement M
@@ -63,7 +63,7 @@ units-of-spec =
     cast-divisor
     shl-divisor
     add-digits
-    cast-whole-quotient
-    mul-whole-quotient
-    whole-quotient-requires
+    cast-nearest-quotient
+    mul-nearest-quotient
+    nearest-quotient-requires
     returns-2)

@@ -14,7 +14,7 @@ type Deed = fn(&mut Script, u8);
 /// What "the left-over quarters are lost" by, and what leaves them.
 const DEEDS: &[(u64, Deed)] = &[
     (5, write_time),
-    (8, write_refused_time),
+    (10, write_refused_time),
     (2, |script, _| script.write(0x03, &[0xFF])),
     (1, |script, _| power(script)),
     (5, write_config),

@@ -1,6 +1,6 @@
 //! Counts and Reals.
 
-use super::Flavour;
+use super::{rounded_time, Flavour, Unit};
 use crate::generator::random::Random;
 use crate::reals;
 
@@ -13,11 +13,20 @@ const END_REALS: &[u32] = &[
     0x007F_FFFF, // the largest subnormal
     0x807F_FFFF,
     0x0080_0000,
+    0x3AFF_FFFF, // around 1/512, half a timer count
+    0x3B00_0000,
+    0x3B00_0001,
+    0xBB00_0000,
+    0xBB00_0001,
     0x3B7F_FFFF, // around 1/256
     0x3B80_0000,
     0x3B80_0001,
     0xBB7F_FFFF,
     0xBB80_0000,
+    0x3D7F_FFFF, // around 1/16, half an operating count
+    0x3D80_0000,
+    0x3D80_0001,
+    0xBD80_0000,
     0x3DFF_FFFF, // around 1/8
     0x3E00_0000,
     0x3DCC_CCCC, // around 0.1
@@ -31,6 +40,9 @@ const END_REALS: &[u32] = &[
     0x4000_0000,
     0x4000_0001,
     0xC000_0001,
+    0x46FF_FFFF, // 8388607.5 timer counts
+    0xC6FF_FFFF,
+    0x497F_FFFF, // 8388607.5 operating counts
     0x4A00_0000, // 2097152
     0x4AFF_FFFF, // around 8388608
     0x4B00_0000,
@@ -104,10 +116,11 @@ pub fn small_count(random: &mut Random) -> i32 {
     }
 }
 
-/// A time from 0 as a Real, mostly of a few ticks.
+/// A time from 0 as a Real, mostly of a few ticks; often it is rounded.
 pub fn time(random: &mut Random) -> u32 {
     match random.below(8) {
         0 => 0x3A00_0000 + random.below(0x0700_0000) as u32,
+        1 | 2 => rounded_time(random, Unit::Timer),
         _ => reals::from_timer_count(small_count(random)),
     }
 }

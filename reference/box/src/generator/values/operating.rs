@@ -1,5 +1,6 @@
 //! Change 2: operating times and counts.
 
+use super::{rounded_time, Unit};
 use crate::generator::random::Random;
 use crate::reals;
 
@@ -9,6 +10,9 @@ const END_TIMES: &[u32] = &[
     0x0000_0000,
     0x8000_0000, // −0
     0x0000_0001,
+    0x3D7F_FFFF, // around 1/16, half a count
+    0x3D80_0000,
+    0x3D80_0001,
     0x3DFF_FFFF, // around 1/8
     0x3E00_0000,
     0x3E00_0001,
@@ -21,6 +25,7 @@ const END_TIMES: &[u32] = &[
 /// Times that a write refuses: out of range, or not finite.
 const REFUSED_TIMES: &[u32] = &[
     0x8000_0001,
+    0xBD80_0000, // would become 0
     0xBE00_0000,
     0xFF7F_FFFF,
     0x4E00_0000, // 536870912
@@ -33,11 +38,13 @@ const REFUSED_TIMES: &[u32] = &[
     0xFFFF_FFFF,
 ];
 
-/// A time that a write takes; mostly each step of its count shows.
+/// A time that a write takes, and often rounds; mostly each step of its count
+/// shows.
 pub fn operating_time(random: &mut Random) -> u32 {
     match random.below(8) {
         0 => random.pick(END_TIMES),
         1 => random.below(0x4E00_0000) as u32,
+        2..=4 => rounded_time(random, Unit::Operating),
         _ => reals::from_operating_count(random.below(1000) as u32),
     }
 }

@@ -4,7 +4,7 @@ use super::currents::current;
 use super::lookups::{finite, table};
 use super::numbers::{count, limit, signed_time, time};
 use super::settings::{config, module_config, wd_preset};
-use super::Flavour;
+use super::{rounded_time, Flavour, Unit};
 use crate::generator::random::Random;
 use crate::reals;
 
@@ -24,13 +24,27 @@ fn suiting_service(random: &mut Random, register: u16, flavour: Flavour) -> Vec<
         0x3 => vec![0xFF],
         0x8 => time(random).to_be_bytes().to_vec(),
         0x9 => module_config(random, flavour).to_vec(),
-        0xA => {
-            let count = wd_preset(random, flavour).min(0x7FFF_FF80);
-            reals::from_timer_count(count).to_be_bytes().to_vec()
-        }
+        0xA => wd_preset_time(random, flavour).to_be_bytes().to_vec(),
         0xD => vec![u8::from(random.chance(3, 4))],
         _ => vec![0; 12],
     }
+}
+
+/// WDPreset; now and then a time that is rounded.
+fn wd_preset_time(random: &mut Random, flavour: Flavour) -> u32 {
+    if random.chance(1, 6) {
+        return rounded_time(random, Unit::Timer);
+    }
+    let count = wd_preset(random, flavour).min(0x7FFF_FF80);
+    reals::from_timer_count(count)
+}
+
+/// OperatingTime; now and then a time that is rounded.
+fn operating_time(random: &mut Random, flavour: Flavour) -> u32 {
+    if random.chance(1, 4) {
+        return rounded_time(random, Unit::Operating);
+    }
+    reals::from_operating_count(count(random, flavour) & 0xFFFF_FF00)
 }
 
 fn suiting_digital(
@@ -46,7 +60,7 @@ fn suiting_digital(
         0x1 | 0x6 => signed_time(random),
         0x2 => count(random, flavour),
         0x3 => current(random),
-        0x4 => reals::from_operating_count(count(random, flavour) & 0xFFFF_FF00),
+        0x4 => operating_time(random, flavour),
         0x7 | 0x8 => time(random),
         0x9 => u32::from_be_bytes(config(random, own, focus, flavour)),
         0xA | 0xB => limit(random),
