@@ -21,7 +21,7 @@ use Rattle.numbers.proofs.Laws.Floats.{is-nan}
 use Rattle.numbers.proofs.Laws.Inside.{units-inside}
 use Rattle.numbers.proofs.Laws.Nearest.{count-nearest, count-even}
 use Rattle.numbers.proofs.Laws.Range.{none, timer-fits, preset-count, preset-units, operating-count, operating-fits}
-use Rattle.numbers.proofs.Laws.ReadBack.{count-back, timer-back, preset-back, operating-back, count-24}
+use Rattle.numbers.proofs.Laws.ReadBack.{on-the-wire, count-back, timer-back, preset-back, operating-back, count-24}
 
 -- ---- bytes of Reals
 bytes : (bs : List ℕ) → length bs ≡ 4 → T (areBytes bs) → T (not (isNan (realFrom bs))) → realBytes (realFrom bs) ≡ bs
@@ -39,7 +39,7 @@ not-a-number : (bs : List ℕ) → T (isNan (realFrom bs)) → realBytes (realFr
 not-a-number bs t = ap realBytes (is-nan (realFrom bs) (is-true (isNan (realFrom bs)) t)) ∙ nan-bytes
 
 pub come-back : ComeBack
-come-back = record { bytes = bytes; not-a-number = not-a-number }
+come-back = record { bytes = bytes; reals = on-the-wire; not-a-number = not-a-number }
 
 -- ---- written counts
 wire : (bs : List ℕ) → T (fits binary32 (realFrom bs))

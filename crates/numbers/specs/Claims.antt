@@ -14,9 +14,10 @@ use Rattle.counts.specs.Counts.{timerUnits, operatingUnits}
 use Rattle.numbers.specs.Reals.{realFrom, realBytes, signed, unitsOf, countOf, realOf, under}
 use Rattle.numbers.specs.Written.{timerAllowed, presetAllowed, operatingAllowed}
 
--- Four bytes that are no NaN's come back from their Real as they were, −0's too. Any NaN's give $7FC00000.
+-- Four bytes that are no NaN's come back from their Real as they were, −0's too, and a Real of 32 bits from its bytes. Any NaN's give $7FC00000.
 pub record ComeBack : Type 0 where
   pub bytes : (bs : List ℕ) → length bs ≡ 4 → T (areBytes bs) → T (not (isNan (realFrom bs))) → realBytes (realFrom bs) ≡ bs
+  pub reals : (x : Float) → T (fits binary32 x) → realFrom (realBytes x) ≡ x
   pub not-a-number : (bs : List ℕ) → T (isNan (realFrom bs)) → realBytes (realFrom bs) ≡ 0x7F ∷ 0xC0 ∷ 0 ∷ 0 ∷ []
 
 -- how far a finite Real is from z counts, in parts of 1 / down e of a count

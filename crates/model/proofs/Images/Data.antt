@@ -9,9 +9,7 @@ use lib.ListN.{length, take, drop, length-append, length-drop}
 use lib.Pow.{areBytes}
 use lib.Seq.{take-add, take-at, drop-at, drop-drop, take-all}
 use lib.Ieee.{Float, nan, inf, fin, binary32, fits, isNan, toBits}
-use lib.Ieee.Bits.{ofBits-toBits, toBits-lt}
 use lib.Ieee.Scale.{finite}
-use Rattle.integers.proofs.Claims.{come-back}
 use Rattle.integers.proofs.Laws.Bytes.{length-bytes}
 use Rattle.numbers.specs.Reals.{realFrom, realBytes}
 use Rattle.numbers.proofs.Claims as Reals
@@ -40,8 +38,7 @@ pub level-again : (bs : List ℕ) → length bs ≡ 4 → T (areBytes bs) → T 
 level-again bs e t a = Reals.come-back .bytes bs e t (no-nan (realFrom bs) a)
 
 pub level-back : (x : Float) → Level x → realFrom (realBytes x) ≡ x
-unfolding realFrom realBytes
-level-back x h = rw (come-back .numbers 4 (toBits binary32 x) (toBits-lt binary32 x (h .real))) (ofBits-toBits binary32 x (h .real))
+level-back x h = Reals.come-back .reals x (h .real)
 
 level-fine : (x : Float) → Level x → T (realAllowed (realBytes x))
 level-fine x h = rw (level-back x h) (h .allowed)

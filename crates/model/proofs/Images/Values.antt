@@ -9,8 +9,7 @@ use lib.Dec.{T, lt→ltb}
 use lib.IntN.{ℤ, pos}
 use lib.ListN.{length}
 use lib.Pow.{areBytes}
-use lib.Ieee.{Float, nan, inf, fin, binary32, fits, isNan, le, ofInt, toBits}
-use lib.Ieee.Bits.{ofBits-toBits, toBits-lt}
+use lib.Ieee.{Float, nan, inf, fin, binary32, fits, isNan, le, ofInt}
 use mir.Syntax.{w32}
 use mir.Val.{SFits}
 use Rattle.integers.specs.Integers.{modulo, wrapped}
@@ -82,5 +81,4 @@ limit-again bs e t a = Reals.come-back .bytes bs e t (limit-no-nan (realFrom bs)
 
 -- it comes back from its bytes
 pub limit-back : (x : Float) → Limit x → realFrom (realBytes x) ≡ x
-unfolding realFrom realBytes
-limit-back x h = rw (come-back .numbers 4 (toBits binary32 x) (toBits-lt binary32 x (h .real))) (ofBits-toBits binary32 x (h .real))
+limit-back x h = Reals.come-back .reals x (h .real)

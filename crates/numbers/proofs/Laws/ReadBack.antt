@@ -5,7 +5,7 @@ use mathlib.Core.Logic.{inl, inr}
 use mathlib.Core.Bool.{Bool, true, false, true≢false}
 use Prim.Native.Nat.{ℕ, suc, _+_, _-_, _*_, _^_, _≤_, _<_}
 use native.Mathlib.Nat.{le-trans, le-of-eq, le-of-lt, lt-of-lt-of-le, lt-of-le-of-lt, mul-one, one-mul, mul-assoc, mul-right-comm}
-use native.Mathlib.Nat.{mul-le-mul-right, mul-le-mul-left, mul-lt-mul-of-pos-right, lt-of-mul-lt-mul-right, le-of-mul-le-mul-right, mod-eq-of-lt, mul-pos}
+use native.Mathlib.Nat.{mul-le-mul-right, mul-le-mul-left, mul-lt-mul-of-pos-right, lt-of-mul-lt-mul-right, le-of-mul-le-mul-right, mul-pos}
 use native.Mathlib.Omega.{arith}
 use lib.Dec.{T, lt→ltb, lit<, lit≤}
 use lib.IntN.{ℤ, pos, negsuc, negℤ, natAbs}
@@ -18,7 +18,7 @@ use lib.Ieee.Order.{le-of-values}
 use mir.Syntax.{w32}
 use mir.Val.{SFits}
 use mir.Facts.{yes-and}
-use Rattle.integers.proofs.Laws.Bytes.{number-bytes}
+use Rattle.integers.proofs.Claims.{come-back}
 use Rattle.numbers.specs.Reals.{realFrom, realBytes, signed, whole, unitsOf, countOf, realOf}
 use Rattle.numbers.specs.Written.{from, below, timerAllowed, presetAllowed, operatingAllowed}
 use Rattle.numbers.specs.Claims.{Within24}
@@ -29,10 +29,10 @@ use Rattle.numbers.proofs.Laws.Nearest.{natAbs-neg}
 use Rattle.numbers.proofs.Laws.Range.{le-made, preset-timer}
 
 -- ---- on the wire a Real of 32 bits is itself
-on-the-wire : (x : Float) → T (fits binary32 x) → realFrom (realBytes x) ≡ x
+pub on-the-wire : (x : Float) → T (fits binary32 x) → realFrom (realBytes x) ≡ x
 unfolding realFrom realBytes
 on-the-wire x F =
-    ap (ofBits binary32) (number-bytes 4 (toBits binary32 x) ∙ mod-eq-of-lt (toBits-lt binary32 x F))
+    ap (ofBits binary32) (come-back .numbers 4 (toBits binary32 x) (toBits-lt binary32 x F))
     ∙ ofBits-toBits binary32 x F
 
 -- ---- the Real of a count is exact
