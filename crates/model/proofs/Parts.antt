@@ -10,13 +10,14 @@ use Rattle.model.specs.declared.Flags.{Flags}
 use Rattle.model.specs.declared.Currents.{Currents}
 use Rattle.model.specs.declared.Errors.{Errors}
 use Rattle.model.specs.declared.Kept.{Kept}
+use Rattle.model.specs.declared.Timetable.{Timetable}
 use Rattle.model.specs.declared.LevelTable.{LevelTable}
 use Rattle.model.specs.Parts.{ChannelParts, DataParts, Parts}
 use Prim.Native.Nat.{ℕ}
 
-channel-parts : (g : Config) (f : Flags) (ot ft op fp : TimerCount) (i : Currents) (e : Errors) (n : ℤ) (t : OperatingCount) (q : ℕ) (u r d : List ℕ) (k : Kept) →
-    ChannelParts g f ot ft op fp i e n t q u r d k
-channel-parts g f ot ft op fp i e n t q u r d k =
+channel-parts : (g : Config) (f : Flags) (ot ft op fp : TimerCount) (i : Currents) (e : Errors) (n : ℤ) (t : OperatingCount) (q : ℕ) (u r d : List ℕ) (w : Timetable) (k : Kept) →
+    ChannelParts g f ot ft op fp i e n t q u r d w k
+channel-parts g f ot ft op fp i e n t q u r d w k =
     record {
       configs = λ x. refl;
       all-flags = λ x. refl;
@@ -31,6 +32,7 @@ channel-parts g f ot ft op fp i e n t q u r d k =
       users = λ x. refl;
       all-reals = λ x. refl;
       maintenances = λ x. refl;
+      timetables = λ x. refl;
       all-kept = λ x. refl;
       counter-kept = λ kn kt ku. refl;
       operating-kept = λ kn kt ku. refl;
@@ -66,8 +68,9 @@ parts =
     record {
       channels = channel-parts;
       datas = data-parts;
-      module-configs = λ r p g x w n. refl;
-      wd-presets = λ r p x g w n. refl;
-      write-enables = λ r p g w x n. refl;
-      each-shared = λ r p g w n. (refl, refl, refl, refl, refl);
+      module-configs = λ r p g x w n k. refl;
+      wd-presets = λ r p x g w n k. refl;
+      write-enables = λ r p g w x n k. refl;
+      clocks = λ r p g w n k x. refl;
+      each-shared = λ r p g w n k. (refl, refl, refl, refl, refl, refl);
     }

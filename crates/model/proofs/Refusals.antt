@@ -22,9 +22,10 @@ use Rattle.model.specs.Restored.{poweredUp, zeroSetup}
 use Rattle.model.specs.Reads.{pairsBytes}
 use Rattle.model.specs.Writes.{sharedWritten, written}
 use Rattle.model.specs.Questions.{Question, asked, refusalNumber, numberOf, readQuestions, writeQuestions, sampleQuestions, lookUpQuestions}
+use Rattle.model.specs.Questions.{minuteQuestions, windowsQuestions, minuteReply, windowsReply}
 use Rattle.model.specs.Questions.{powerUpQuestions, storeQuestions, readReply, writeReply, sampleReply, lookUpReply, powerUpReply, storeReply}
-use Rattle.model.specs.Calls.{Request, read, write, sample, lookUp, tick, sortOf, step, cleared, watchdogPreset, thenPreset, readAs}
-use Rattle.model.specs.Calls.{writtenAs, lookedUpAs}
+use Rattle.model.specs.Calls.{Request, read, write, sample, lookUp, minute, windows, tick, sortOf, step, cleared, watchdogPreset, thenPreset, readAs}
+use Rattle.model.specs.Calls.{writtenAs, lookedUpAs, minuteAs}
 use Rattle.model.specs.Calls.{plainAnswer, sampledAs, powerUp, poweredUpAs, powerUpAnswer, storeFills, stored, storeAnswer}
 use Rattle.model.specs.Refusals.{Asked, AllYes, FirstNo, Decides, Decided, Refusals, wireRefused, plainlyRefused, refusedBy, InOrder}
 
@@ -120,13 +121,15 @@ number-is (q ∷ qs) n = go (q .yes) (number-is qs n)
     go false later = refl
 
 decided : Decided
-unfolding step readReply writeReply sampleReply lookUpReply powerUpAnswer powerUpReply storeAnswer storeReply
+unfolding step readReply writeReply sampleReply lookUpReply minuteReply windowsReply powerUpAnswer powerUpReply storeAnswer storeReply
 decided =
     record {
       reads = λ m n lent. decides _ _ tt (number-is (readQuestions n (place n) lent) _);
       writes = λ m n bs. decides _ _ tt (number-is (writeQuestions (writeEnable (m .shared)) n (place n) bs) 0);
       samples = λ m k b x. decides _ _ tt (number-is (sampleQuestions k x) 0);
       look-ups = λ m k x. decides _ _ tt (number-is (lookUpQuestions k x) 0);
+      minutes = λ m n. decides _ _ tt (number-is (minuteQuestions n) 0);
+      windows-calls = λ m k ws. decides _ _ tt (number-is (windowsQuestions k ws) 0);
       power-ups = λ img. decides _ _ tt (number-is (powerUpQuestions img) 0);
       stores = λ m lent. decides _ _ tt (number-is (storeQuestions lent) _);
     }
@@ -150,12 +153,18 @@ look-up-refused : (r : Reply) (i : ℕ) (x : Float) (m : Module) (n : ℕ) → n
 look-up-refused (Done k) i x m n h = none h
 look-up-refused (Refused q) i x m n h = rw h
 
+minute-refused : (r : Reply) (i : ℕ) (m : Module) (n : ℕ) → numberOf r ≡ suc n → minuteAs r i m ≡ plainlyRefused m (suc n)
+minute-refused (Done k) i m n h = none h
+minute-refused (Refused q) i m n h = rw h
+
 unchanged : (m : Module) (x : Request) (n : ℕ) → step m x .answer .number ≡ suc n → step m x ≡ refusedBy (sortOf x) m (suc n)
 unfolding step
 unchanged m (read n lent) k h = read-refused (readReply n (place n) lent) (place n) lent m k h
 unchanged m (write n bs) k h = write-refused (writeReply (writeEnable (m .shared)) n (place n) bs) (place n) bs m k h
 unchanged m (sample i b x) k h = sample-refused (sampleReply i x) i _ m k h
 unchanged m (lookUp i x) k h = look-up-refused (lookUpReply i x) i x m k h
+unchanged m (minute i) k h = minute-refused (minuteReply i) i m k h
+unchanged m (windows i ws) k h = sample-refused (windowsReply i ws) i _ m k h
 unchanged m tick k h = none h
 
 -- ---- power-up and storing
@@ -182,7 +191,7 @@ refusals = record { decided = decided; unchanged = unchanged; start = start; sto
 
 -- ---- an instance of every number, by computation
 pub in-order : InOrder
-unfolding step place readReply writeReply sampleReply lookUpReply powerUpReply storeReply powerUpAnswer storeAnswer written sharedWritten cleared
+unfolding step place readReply writeReply sampleReply lookUpReply minuteReply windowsReply powerUpReply storeReply powerUpAnswer storeAnswer written sharedWritten cleared
     watchdogPreset poweredUp Image.configAllowed Image.moduleConfigAllowed Image.sizeRight Image.countsRight Image.sumRight Image.valuesAllowed
     Image.entriesAllowed Image.entryAllowed Image.encode Image.framed Image.summed Image.setupFrom Image.version Image.split Image.contents Image.keptBytes
     Image.keptFrom Image.pairsFrom Image.pairsAllowed Image.keptAllowed Image.countsMatch Image.allAllowed Image.moduleAllowed Image.entriesBytes
@@ -207,6 +216,14 @@ in-order =
       number14 = λ m. refl;
       number15 = λ m. refl;
       number7-lookup = λ m. refl;
+      number18 = λ m. refl;
+      number18-start = λ m. refl;
+      number18-end = λ m. refl;
+      number19 = λ m. refl;
+      number8-windows = λ m. refl;
+      done-minute = λ m. refl;
+      done-windows = λ m. refl;
+      done-no-windows = λ m. refl;
       number2-first = λ m. refl;
       done = refl;
       done-image = refl;

@@ -27,7 +27,8 @@ use Rattle.model.specs.declared.ServiceRegister.the-variants.{Highest, R
 use Rattle.model.specs.declared.DigitalRegister.the-variants.{FlagReg, OutTimer, Counter, OutCurrent, OperatingTime, UserBytes, FBTimer, FBPreset}
 use Rattle.model.specs.declared.DigitalRegister.the-variants.{OutPreset, ChConfig, MinCurrent, MaxCurrent, UserReals, Maintenance, ChError}
 use Rattle.model.specs.declared.CommonRegister.the-variants.{OutFlags, InFlags, IOChError, ChError as CommonChError}
-use Rattle.model.specs.State.{operatingTime, nothing, channelAt, putChannel, inFlag, writeEnable}
+use Rattle.model.specs.State.{operatingTime, withTimetable, nothing, channelAt, putChannel, inFlag, writeEnable}
+use Rattle.model.specs.Hours.{timetableOf}
 use Rattle.model.specs.Registers.{Place, place, serviceRow, digitalRow}
 use Rattle.model.specs.Channel as Rules
 use Rattle.model.specs.Tick as Tick
@@ -37,8 +38,8 @@ use Rattle.model.specs.Image as Image
 use Rattle.model.specs.Restored as Restored
 use Rattle.model.specs.Questions as Questions
 use Rattle.model.specs.Questions.{accepted}
-use Rattle.model.specs.Calls.{Request, read, write, sample, lookUp, tick, sortOf, step, run, cleared, watchdogPreset}
-use Rattle.model.specs.Calls.{readLeaves, writeLeaves, sampleLeaves, powerUp, poweredUpAs}
+use Rattle.model.specs.Calls.{Request, read, write, sample, lookUp, minute, windows, tick, sortOf, step, run, cleared, watchdogPreset}
+use Rattle.model.specs.Calls.{readLeaves, writeLeaves, sampleLeaves, minuteLeaves, powerUp, poweredUpAs}
 use Rattle.model.specs.Runs.{timeOf, ticksBy, ticksOn, givesBy, gives, RunsAddUp, Runs}
 use Rattle.model.proofs.Laws.Tests.{either, neither}
 use Rattle.model.proofs.Laws.Lists.{length-each, at-each, at-map}
@@ -159,6 +160,10 @@ module _ (c : ℕ) (1≤c : 1 ≤ c) (c≤16 : c ≤ 16) where
     sample-left (Done n) k f h = rule-left k f (λ e. h)
     sample-left (Refused q) k f h = (l, refl)
 
+    minute-left : (r : Reply) (n : ℕ) → Left (minuteLeaves r n m)
+    minute-left (Done q) n = (l, refl)
+    minute-left (Refused q) n = (l, refl)
+
     -- a tick, which finds InFlag TRUE or FALSE
     ticked-time : Holds (cond (inFlag (channelAt m c)) (operatingTick (timeOf m c)) (timeOf m c)) (Tick.ticked m)
     unfolding Tick.ticked tick-in time-kept-if kept-if operated-in
@@ -192,6 +197,8 @@ module _ (c : ℕ) (1≤c : 1 ≤ c) (c≤16 : c ≤ 16) where
       sample-left m l (Questions.sampleReply k x) k (Rules.takeSample (m .shared) b x)
       (λ ch. ap time (in-sample (m .shared) b x ch) ∙ taken-leaves _ _ (inputs ch))
   step-time m l (lookUp k x) e = (l, refl)
+  step-time m l (minute n) e = minute-left m l (Questions.minuteReply n) n
+  step-time m l (windows k ws) e = sample-left m l (Questions.windowsReply k ws) k (withTimetable (timetableOf ws)) (λ ch. refl)
   step-time m l tick e = let h = ticked-time m l in (h .0, h .1 ∙ on-time (inFlag (channelAt m c)) (timeOf m c))
 
   -- ---- a list

@@ -1,5 +1,5 @@
--- Document 01, Calls 1 to 8, with Questions 16 to 18 and Setup image 4, and document 02, Change 1, 3, and Change 3, 2 to 4: what each call answers and leaves,
--- for any box, call and buffer; a list of calls; power-up and storing. Definitions only.
+-- Document 01, Calls 1 to 8, with Questions 16 to 18 and Setup image 4, and document 02, Change 1, 3, Change 3, 2 to 4, and Change 6, 2, 3 and 5: what each call
+-- answers and leaves, for any box, call and buffer; a list of calls; power-up and storing. Definitions only.
 use mathlib.Core.Bool.{Bool, false}
 use mathlib.Core.List.{List, [], _∷_, _++_}
 use Prim.Native.Nat.{ℕ}
@@ -10,7 +10,9 @@ use Rattle.model.specs.declared.DataChannel.{DataChannel}
 use Rattle.model.specs.declared.Module.{Module}
 use Rattle.model.specs.declared.Reply.{Reply}
 use Rattle.model.specs.declared.Reply.the-variants.{Done, Refused}
-use Rattle.model.specs.State.{wdTimer, wdPreset, writeEnable, serviceOf, dataChannel, withServiceRecord, channelAt, putChannel}
+use Rattle.model.specs.State.{wdTimer, wdPreset, writeEnable, withClock, serviceOf, dataChannel, withShared, withServiceRecord, withTimetable}
+use Rattle.model.specs.State.{channelAt, putChannel}
+use Rattle.model.specs.Hours.{clockAt, timetableOf}
 use Rattle.model.specs.Channel.{takeSample}
 use Rattle.model.specs.Errors.{dataError, generalError}
 use Rattle.model.specs.Registers.{Place, channelOf, place}
@@ -20,14 +22,17 @@ use Rattle.model.specs.Writes.{written}
 use Rattle.model.specs.Tick.{withRunOut, ticked}
 use Rattle.model.specs.Image.{setupOf, encode, decode}
 use Rattle.model.specs.Restored.{poweredUp, zeroSetup}
-use Rattle.model.specs.Questions.{numberOf, lengthOf, readReply, writeReply, sampleReply, lookUpReply, powerUpReply, storeReply}
+use Rattle.model.specs.Questions.{numberOf, lengthOf, readReply, writeReply, sampleReply, lookUpReply, minuteReply, windowsReply, powerUpReply, storeReply}
 
--- ---- Calls 1: a call of a list, with all that it carries (Two lists 6). Change 3, 2: a sample carries a level and a current
+-- ---- Calls 1: a call of a list, with all that it carries (Two lists 6). Change 3, 2: a sample carries a level and a current. Change 6, 2 and 3: a minute of the
+-- week; and the windows of a channel, each as one number, its start times 65536 plus its end
 pub data Request : Type 0 where
   read : ℕ → List ℕ → Request
   write : ℕ → List ℕ → Request
   sample : ℕ → Bool → Float → Request
   lookUp : ℕ → Float → Request
+  minute : ℕ → Request
+  windows : ℕ → List ℕ → Request
   tick : Request
 
 -- Two lists 3: whose a call is
@@ -35,7 +40,8 @@ pub data Owner : Type 0 where
   everyone : Owner
   channel : ℕ → Owner
 
--- what a call is: a tick; a wire call that lends a buffer; a wire write of a SWNo and its bytes; or a local call. Change 3, 4: a sample is one call of its channel
+-- what a call is: a tick; a wire call that lends a buffer; a wire write of a SWNo and its bytes; or a local call. Change 3, 4: a sample is one call of its channel.
+-- Change 6, 5: so are the windows of a channel, and setting the minute is a call of everyone
 pub data Sort : Type 0 where
   aTick : Sort
   aRead : Owner → List ℕ → Sort
@@ -47,6 +53,8 @@ sortOf (read n lent) = aRead (channel (channelOf n)) lent
 sortOf (write n bs) = aWrite n bs
 sortOf (sample k b x) = aLocalCall (channel k)
 sortOf (lookUp k x) = aLocalCall everyone
+sortOf (minute n) = aLocalCall everyone
+sortOf (windows k ws) = aLocalCall (channel k)
 sortOf tick = aTick
 
 -- ---- Calls 5 and 6: an answer in the paper's numbers. What a call does not answer is 0, empty or FALSE
@@ -113,7 +121,7 @@ writeLeaves (Refused r) p bs m = m
 abbrev pub writtenAs : Reply → Place → List ℕ → Module → Stepped
 writtenAs r p bs m = record { answer = wireAnswer r [] (writeLeaves r p bs m); box = writeLeaves r p bs m }
 
--- ---- Calls 2: a sample for channel k, which makes ch of it; refused, it does neither of its two (Change 3, 3)
+-- ---- Calls 2: a sample for channel k, which makes ch of it; refused, it does neither of its two (Change 3, 3). Windows for channel k alike
 abbrev pub sampleLeaves : Reply → ℕ → Channel → Module → Module
 sampleLeaves (Done n) k ch m = putChannel k ch m
 sampleLeaves (Refused r) k ch m = m
@@ -129,12 +137,22 @@ lookedUpBits (Refused r) k x d = 0
 abbrev pub lookedUpAs : Reply → ℕ → Float → Module → Stepped
 lookedUpAs r k x m = record { answer = answerOf r [] false false (lookedUpBits r k x (dataChannel m)); box = m }
 
+-- ---- Change 6, 2: the minute set to n; refused, it stays as it was
+abbrev pub minuteLeaves : Reply → ℕ → Module → Module
+minuteLeaves (Done q) n m = withShared (withClock (clockAt n) (m .shared)) m
+minuteLeaves (Refused r) n m = m
+
+abbrev pub minuteAs : Reply → ℕ → Module → Stepped
+minuteAs r n m = record { answer = plainAnswer r []; box = minuteLeaves r n m }
+
 -- ---- one call on any box
 unfoldable pub step : Module → Request → Stepped
 step m (read n lent) = thenPreset (readAs (readReply n (place n) lent) (place n) lent (cleared m))
 step m (write n bs) = thenPreset (writtenAs (writeReply (writeEnable (m .shared)) n (place n) bs) (place n) bs (cleared m))
 step m (sample k b x) = sampledAs (sampleReply k x) k (takeSample (m .shared) b x (channelAt m k)) m
 step m (lookUp k x) = lookedUpAs (lookUpReply k x) k x m
+step m (minute n) = minuteAs (minuteReply n) n m
+step m (windows k ws) = sampledAs (windowsReply k ws) k (withTimetable (timetableOf ws) (channelAt m k)) m
 step m tick = record { answer = plainAnswer (Done 0) []; box = ticked m }
 
 -- demand 3: each call gets the box that the last one left

@@ -1,6 +1,6 @@
--- Document 01, Questions 1 to 15, and document 02, Change 1, 14, and Change 3, 3: each question, the first whose answer is no, and the number and values of
--- every answer. Definitions only.
-use mathlib.Core.Bool.{Bool, true, false, not, cond, _||_}
+-- Document 01, Questions 1 to 15, and document 02, Change 1, 14, Change 3, 3, and Change 6, 6 and 7: each question, the first whose answer is no, and the number
+-- and values of every answer. Definitions only.
+use mathlib.Core.Bool.{Bool, true, false, not, cond, _&&_, _||_}
 use mathlib.Core.List.{List, [], _∷_}
 use Prim.Native.Nat.{ℕ}
 use lib.Dec.{eqb, leb}
@@ -13,7 +13,9 @@ use Rattle.model.specs.declared.Reply.{Reply}
 use Rattle.model.specs.declared.Access.the-variants.{ReadOnly, Writable, Protected}
 use Rattle.model.specs.declared.Refusal.the-variants.{Beyond, Unlisted, NotWritable, WrongLength, BufferTooShort, NotEnabled, NotAllowed}
 use Rattle.model.specs.declared.Refusal.the-variants.{NoChannel, NotFinite, ImageLength, ImageCounts, ImageSum, ImageValues, NoRoom, NoTable}
+use Rattle.model.specs.declared.Refusal.the-variants.{NotMinute, TooManyWindows}
 use Rattle.model.specs.declared.Reply.the-variants.{Done, Refused}
+use Rattle.model.specs.Hours.{isMinute, windowOf}
 use Rattle.model.specs.Settings.{isDigital}
 use Rattle.model.specs.Registers.{Place, service, digital, common, data-channel, unlisted, access, size, highestSWNo}
 use Rattle.model.specs.Writes.{allowed}
@@ -37,6 +39,8 @@ refusalNumber ImageSum = 12
 refusalNumber ImageValues = 13
 refusalNumber NoRoom = 14
 refusalNumber NoTable = 15
+refusalNumber NotMinute = 18
+refusalNumber TooManyWindows = 19
 
 -- Calls 5: 0 where the call is done
 abbrev pub numberOf : Reply → ℕ
@@ -140,6 +144,29 @@ lookUpQuestions k x = (question15 k else NoTable) ∷ (finite x else NotAllowed)
 
 unfoldable pub lookUpReply : ℕ → Float → Reply
 lookUpReply k x = asked (lookUpQuestions k x) (Done 0)
+
+-- ---- opening hours. Change 6, 6 and 7: 18 of a minute, and of every start and end; for windows 8, 19, then 18
+abbrev pub question18 : ℕ → Bool
+question18 n = isMinute n
+
+abbrev pub minuteQuestions : ℕ → List Question
+minuteQuestions n = (question18 n else NotMinute) ∷ []
+
+unfoldable pub minuteReply : ℕ → Reply
+minuteReply n = asked (minuteQuestions n) (Done 0)
+
+abbrev pub question19 : List ℕ → Bool
+question19 ws = leb (length ws) 8
+
+abbrev pub areMinutes : List ℕ → Bool
+areMinutes [] = true
+areMinutes (w ∷ ws) = (question18 (windowOf w .start) && question18 (windowOf w .end)) && areMinutes ws
+
+abbrev pub windowsQuestions : ℕ → List ℕ → List Question
+windowsQuestions k ws = (question8 k else NoChannel) ∷ (question19 ws else TooManyWindows) ∷ (areMinutes ws else NotMinute) ∷ []
+
+unfoldable pub windowsReply : ℕ → List ℕ → Reply
+windowsReply k ws = asked (windowsQuestions k ws) (Done 0)
 
 -- ---- power-up, 10 to 13, and storing, 14
 abbrev pub powerUpQuestions : List ℕ → List Question

@@ -11,13 +11,14 @@ use lib.Ieee.Scale.{finite}
 use Rattle.counts.specs.Counts.{timer}
 use Rattle.model.specs.declared.Module.{Module}
 use Rattle.model.specs.State.{config, writeEnable}
+use Rattle.model.specs.Hours.{window}
 use Rattle.model.specs.Errors.{dataError, generalError}
 use Rattle.model.specs.Registers.{place}
 use Rattle.model.specs.Image.{sizeRight, countsRight, sumRight, valuesAllowed, encode}
 use Rattle.model.specs.Restored.{poweredUp, zeroSetup}
 use Rattle.model.specs.Questions.{question1, question2, question3, question4, question5, question6, question7, question8, question9, question14}
-use Rattle.model.specs.Questions.{question15}
-use Rattle.model.specs.Calls.{Request, read, write, sample, lookUp, Sort, aTick, aRead, aWrite, aLocalCall, sortOf, Stepped, step}
+use Rattle.model.specs.Questions.{question15, question18, question19, areMinutes}
+use Rattle.model.specs.Calls.{Request, read, write, sample, lookUp, minute, windows, Sort, aTick, aRead, aWrite, aLocalCall, sortOf, Stepped, step}
 use Rattle.model.specs.Calls.{cleared, watchdogPreset, powerUp, powerUpAnswer, storeAnswer}
 use Rattle.model.specs.Images.{zeroData}
 
@@ -65,6 +66,10 @@ pub record Decided : Type 0 where
   pub samples : (m : Module) (k : ℕ) (b : Bool) (x : Float) → Decides ((8 asks question8 k) ∷ (9 asks question9 x) ∷ []) (step m (sample k b x) .answer .number)
   -- Change 1, 14
   pub look-ups : (m : Module) (k : ℕ) (x : Float) → Decides ((15 asks question15 k) ∷ (7 asks finite x) ∷ []) (step m (lookUp k x) .answer .number)
+  -- Change 6, 6 and 7
+  pub minutes : (m : Module) (n : ℕ) → Decides ((18 asks question18 n) ∷ []) (step m (minute n) .answer .number)
+  pub windows-calls : (m : Module) (k : ℕ) (ws : List ℕ) →
+      Decides ((8 asks question8 k) ∷ (19 asks question19 ws) ∷ (18 asks areMinutes ws) ∷ []) (step m (windows k ws) .answer .number)
   pub power-ups : (img : List ℕ) →
       Decides ((10 asks sizeRight img) ∷ (11 asks countsRight img) ∷ (12 asks sumRight img) ∷ (13 asks valuesAllowed img) ∷ []) (powerUpAnswer img .number)
   pub stores : (m : Module) (lent : List ℕ) → Decides ((14 asks question14 lent) ∷ []) (storeAnswer m lent .number)
@@ -129,6 +134,14 @@ pub record InOrder : Type 0 where
   pub number14 : (m : Module) → storeAnswer m (replicate 885 0) .number ≡ 14
   pub number15 : (m : Module) → step m (lookUp 3 (ofBits binary32 0x7F80_0000)) .answer .number ≡ 15
   pub number7-lookup : (m : Module) → step m (lookUp 2 (ofBits binary32 0x7F80_0000)) .answer .number ≡ 7
+  pub number18 : (m : Module) → step m (minute 10080) .answer .number ≡ 18
+  pub number18-start : (m : Module) → step m (windows 16 (window 10080 0 ∷ [])) .answer .number ≡ 18
+  pub number18-end : (m : Module) → step m (windows 1 (window 10079 0 ∷ window 0 10080 ∷ [])) .answer .number ≡ 18
+  pub number19 : (m : Module) → step m (windows 1 (replicate 9 (window 10080 10080))) .answer .number ≡ 19
+  pub number8-windows : (m : Module) → step m (windows 17 (replicate 9 (window 10080 10080))) .answer .number ≡ 8
+  pub done-minute : (m : Module) → step m (minute 10079) .answer .number ≡ 0
+  pub done-windows : (m : Module) → step m (windows 16 (replicate 8 (window 10079 10079))) .answer .number ≡ 0
+  pub done-no-windows : (m : Module) → step m (windows 1 []) .answer .number ≡ 0
   pub number2-first : (m : Module) → writes m 0x12F [] ≡ 2
   pub done : writes (enabled (poweredUp zeroSetup)) 0x19 (0 ∷ 0x50 ∷ 16 ∷ 16 ∷ []) ≡ 0
   pub done-image : powerUpAnswer (imageWith 0x10) .number ≡ 0

@@ -12,18 +12,20 @@ use Rattle.model.specs.declared.ServiceBits.{ServiceBits}
 use Rattle.model.specs.declared.DataChannel.{DataChannel}
 use Rattle.model.specs.declared.Module.{Module}
 use Rattle.model.specs.State.{flagsOf, channelWith, noBits, sharedOf, serviceBits, serviceOf, dataChannelWith, timersOf, moduleOf}
+use Rattle.model.specs.Hours.{unsetClock, noWindows}
 use Rattle.model.specs.Lookup.{zero as realZero}
 use Rattle.model.specs.Image.{Entry, DataKept, Setup, decode, imageSize}
 
--- Change 2, 2: an operating count comes back without quarters
+-- Change 2, 2: an operating count comes back without quarters. Change 6, 3: no windows
 unfoldable pub restored : Entry → Channel
 restored e =
     channelWith (e .config) (flagsOf false false false false false) (timer (pos 0)) (timer (pos 0)) (e .out-preset) (e .fb-preset)
     (record { out = realZero; min = e .min; max = e .max }) (record { act = noBits; his = noBits })
-    (e .counter) (e .operating) 0 (e .user) (e .reals) (e .maintenance) (record { counter = e .counter; operating = e .operating; user = e .user })
+    (e .counter) (e .operating) 0 (e .user) (e .reals) (e .maintenance) noWindows (record { counter = e .counter; operating = e .operating; user = e .user })
 
+-- Change 6, 2: the minute is unset
 abbrev pub restoredShared : Config → TimerCount → Shared
-restoredShared g preset = sharedOf (timer (pos 0)) g preset false 0
+restoredShared g preset = sharedOf (timer (pos 0)) g preset false 0 unsetClock
 
 abbrev pub noServiceBits : ServiceBits
 noServiceBits = serviceBits false false false

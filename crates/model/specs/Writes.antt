@@ -97,13 +97,13 @@ operatingFrom bs = record { 0 = unitsOf operatingUnits (realFrom bs) }
 
 -- ---- a service register, in four parts: the shared record, the service channel's own errors, each channel, and the data channel
 abbrev pub setModuleConfig : Config → Shared → Shared
-setModuleConfig g s = sharedOf (freeRunTimer s) g (wdPreset s) (writeEnable s) (saveTicks s)
+setModuleConfig g s = sharedOf (freeRunTimer s) g (wdPreset s) (writeEnable s) (saveTicks s) (s .clock)
 
 abbrev pub setWDPreset : TimerCount → Shared → Shared
-setWDPreset t s = sharedOf (freeRunTimer s) (moduleConfig s) t (writeEnable s) (saveTicks s)
+setWDPreset t s = sharedOf (freeRunTimer s) (moduleConfig s) t (writeEnable s) (saveTicks s) (s .clock)
 
 abbrev pub setWriteEnable : Bool → Shared → Shared
-setWriteEnable b s = sharedOf (freeRunTimer s) (moduleConfig s) (wdPreset s) b (saveTicks s)
+setWriteEnable b s = sharedOf (freeRunTimer s) (moduleConfig s) (wdPreset s) b (saveTicks s) (s .clock)
 
 -- Setup image 3: a reset restores the kept settings, as power-up does
 unfoldable pub sharedWritten : ServiceRegister → List ℕ → Shared → Shared

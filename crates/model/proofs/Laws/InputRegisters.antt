@@ -1,4 +1,4 @@
--- What the writes and reads of each register do to what decides a channel's InFlag, Counter and operating time (Inputs). Assumes nothing.
+-- What the writes and reads of each register do to what decides a channel's InFlag, Counter and operating time, and to its windows (Inputs). Assumes nothing.
 use mathlib.Core.Path.{_≡_, refl}
 use mathlib.Core.Bool.{Bool, true, false}
 use mathlib.Core.List.{List}
@@ -15,6 +15,7 @@ use Rattle.model.specs.declared.ServiceRegister.the-variants.{Highest, R
 use Rattle.model.specs.declared.DigitalRegister.the-variants.{FlagReg, OutTimer, Counter, OutCurrent, OperatingTime, UserBytes, FBTimer, FBPreset}
 use Rattle.model.specs.declared.DigitalRegister.the-variants.{OutPreset, ChConfig, MinCurrent, MaxCurrent, UserReals, Maintenance, ChError}
 use Rattle.model.specs.declared.CommonRegister.the-variants.{OutFlags, InFlags, IOChError, ChError as CommonChError}
+use Rattle.model.specs.Hours.{noWindows}
 use Rattle.model.specs.Settings.{bit}
 use Rattle.model.specs.Channel as Rules
 use Rattle.model.specs.Image as Image
@@ -28,15 +29,15 @@ use Rattle.model.proofs.Laws.Inputs.{in-flagReg, in-outFlags}
 unfoldable pub write-in : DigitalRegister → Bool → List ℕ → Inputs → Inputs
 write-in FlagReg enabled bs n = taken simulated (bit 6 (getD bs 0 0)) n
 write-in OutTimer enabled bs n = n
-write-in Counter enabled bs n = kept-if enabled (inputsOf (n .level) (n .config) (signedNumber bs) (n .kept) (n .operating) (n .kept-operating))
+write-in Counter enabled bs n = kept-if enabled (inputsOf (n .level) (n .config) (signedNumber bs) (n .kept) (n .operating) (n .kept-operating) (n .timetable))
 write-in OutCurrent enabled bs n = n
 write-in OperatingTime enabled bs n =
-    time-kept-if enabled (inputsOf (n .level) (n .config) (n .counter) (n .kept) (operatingOf (Writes.operatingFrom bs)) (n .kept-operating))
+    time-kept-if enabled (inputsOf (n .level) (n .config) (n .counter) (n .kept) (operatingOf (Writes.operatingFrom bs)) (n .kept-operating) (n .timetable))
 write-in UserBytes enabled bs n = n
 write-in FBTimer enabled bs n = n
 write-in FBPreset enabled bs n = n
 write-in OutPreset enabled bs n = n
-write-in ChConfig enabled bs n = inputsOf (n .level) (Image.configFrom bs) (n .counter) (n .kept) (n .operating) (n .kept-operating)
+write-in ChConfig enabled bs n = inputsOf (n .level) (Image.configFrom bs) (n .counter) (n .kept) (n .operating) (n .kept-operating) (n .timetable)
 write-in MinCurrent enabled bs n = n
 write-in MaxCurrent enabled bs n = n
 write-in UserReals enabled bs n = n
@@ -92,10 +93,10 @@ in-read UserReals ch = refl
 in-read Maintenance ch = refl
 in-read ChError ch = in-acknowledged ch
 
--- what a service register does to it: a reset clears InFlag, and gives Counter and the operating time their kept values
+-- what a service register does to it: a reset clears InFlag, gives Counter and the operating time their kept values, and empties the windows
 unfoldable pub every-in : ServiceRegister → Inputs → Inputs
 every-in Highest n = n
-every-in Reset n = inputsOf false (n .config) (n .kept) (n .kept) (operatingOf (n .kept-operating)) (n .kept-operating)
+every-in Reset n = inputsOf false (n .config) (n .kept) (n .kept) (operatingOf (n .kept-operating)) (n .kept-operating) noWindows
 every-in FreeRunTimer n = n
 every-in WDTimer n = n
 every-in ModuleConfig n = n

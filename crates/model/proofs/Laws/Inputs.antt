@@ -1,5 +1,5 @@
--- What decides a channel's InFlag, Counter and operating time, with the references that it names: the part of a channel that another may learn, and that a list
--- of calls tells. For each rule, what it does to that part. Assumes nothing.
+-- What decides a channel's InFlag, Counter and operating time, with the references that it names and its windows: the part of a channel that another may learn, or
+-- that a list of calls tells. For each rule, what it does to that part. Assumes nothing.
 use mathlib.Core.Path.{_≡_, refl, _∙_, ap}
 use mathlib.Core.Bool.{Bool, true, false, cond, not, _&&_, Bool·beq}
 use mathlib.Core.List.{List}
@@ -11,10 +11,12 @@ use Rattle.counts.specs.declared.Operating.{Operating}
 use Rattle.counts.specs.Counts.{counterStep, operatingTick, isPositive}
 use Rattle.model.specs.declared.Config.{Config}
 use Rattle.model.specs.declared.Function.{Function}
+use Rattle.model.specs.declared.Timetable.{Timetable}
 use Rattle.model.specs.declared.Channel.{Channel}
 use Rattle.model.specs.declared.Shared.{Shared}
 use Rattle.model.specs.declared.Function.the-variants.{Input, Output, OneShot, DutyCycle, Timer}
 use Rattle.model.specs.State.{operatingTime, outFlag, inFlag, control, outTimer, setInFlag, setOutCurrent, withCounter, withOperating}
+use Rattle.model.specs.Hours.{closed}
 use Rattle.model.specs.Settings as Settings
 use Rattle.model.specs.Settings.{bit, functions}
 use Rattle.model.specs.Channel as Rules
@@ -28,27 +30,28 @@ pub record Inputs : Type 0 where
   pub kept : ℤ
   pub operating : Operating
   pub kept-operating : OperatingCount
+  pub timetable : Timetable
 
-abbrev pub inputsOf : Bool → Config → ℤ → ℤ → Operating → OperatingCount → Inputs
-inputsOf b g n k t kt = record { level = b; config = g; counter = n; kept = k; operating = t; kept-operating = kt }
+abbrev pub inputsOf : Bool → Config → ℤ → ℤ → Operating → OperatingCount → Timetable → Inputs
+inputsOf b g n k t kt w = record { level = b; config = g; counter = n; kept = k; operating = t; kept-operating = kt; timetable = w }
 
 abbrev pub inputs : Channel → Inputs
-inputs ch = inputsOf (inFlag ch) (ch .config) (ch .counter) (ch .kept .counter) (operatingTime ch) (ch .kept .operating)
+inputs ch = inputsOf (inFlag ch) (ch .config) (ch .counter) (ch .kept .counter) (operatingTime ch) (ch .kept .operating) (ch .timetable)
 
 -- an InFlag that is given a value: a rise counts
 unfoldable pub given : Bool → Inputs → Inputs
-given b n = inputsOf b (n .config) (cond (b && not (n .level)) (counterStep (n .counter)) (n .counter)) (n .kept) (n .operating) (n .kept-operating)
+given b n = inputsOf b (n .config) (cond (b && not (n .level)) (counterStep (n .counter)) (n .counter)) (n .kept) (n .operating) (n .kept-operating) (n .timetable)
 
 -- a Counter that is kept, and an operating time
 unfoldable pub kept-if : Bool → Inputs → Inputs
-kept-if b n = inputsOf (n .level) (n .config) (n .counter) (cond b (n .counter) (n .kept)) (n .operating) (n .kept-operating)
+kept-if b n = inputsOf (n .level) (n .config) (n .counter) (cond b (n .counter) (n .kept)) (n .operating) (n .kept-operating) (n .timetable)
 
 unfoldable pub time-kept-if : Bool → Inputs → Inputs
-time-kept-if b n = inputsOf (n .level) (n .config) (n .counter) (n .kept) (n .operating) (cond b (n .operating .count) (n .kept-operating))
+time-kept-if b n = inputsOf (n .level) (n .config) (n .counter) (n .kept) (n .operating) (cond b (n .operating .count) (n .kept-operating)) (n .timetable)
 
 -- an operating time that a tick finds with InFlag TRUE or FALSE
 unfoldable pub operated-in : Inputs → Inputs
-operated-in n = inputsOf (n .level) (n .config) (n .counter) (n .kept) (cond (n .level) (operatingTick (n .operating)) (n .operating)) (n .kept-operating)
+operated-in n = inputsOf (n .level) (n .config) (n .counter) (n .kept) (cond (n .level) (operatingTick (n .operating)) (n .operating)) (n .kept-operating) (n .timetable)
 
 -- both kept, by a save; and a whole tick, which saves or not
 abbrev saved-in : Bool → Inputs → Inputs
@@ -61,6 +64,10 @@ tick-in due n = saved-in due (operated-in n)
 unfoldable pub taken : (Config → Bool) → Bool → Inputs → Inputs
 taken who b n = cond (who (n .config)) (given b n) n
 
+-- windows that are given
+abbrev pub given-windows : Timetable → Inputs → Inputs
+given-windows t n = inputsOf (n .level) (n .config) (n .counter) (n .kept) (n .operating) (n .kept-operating) t
+
 abbrev pub simulated : Config → Bool
 simulated g = bit 0 (g .enablebit)
 
@@ -72,7 +79,7 @@ unfolding Rules.inputBecomes given
 in-becomes b ch = go (b && not (inFlag ch))
   where
     go : (t : Bool) → inputs (setInFlag b (cond t (withCounter (counterStep (ch .counter)) ch) ch))
-        ≡ inputsOf b (ch .config) (cond t (counterStep (ch .counter)) (ch .counter)) (ch .kept .counter) (operatingTime ch) (ch .kept .operating)
+        ≡ inputsOf b (ch .config) (cond t (counterStep (ch .counter)) (ch .counter)) (ch .kept .counter) (operatingTime ch) (ch .kept .operating) (ch .timetable)
     go true = refl
     go false = refl
 
@@ -134,6 +141,10 @@ module _ (ch : Channel) where
   unfolding Tick.shutDown
   in-shutDown out = either Kept out refl refl
 
+  in-keptClosed : (s : Shared) → Kept (Tick.keptClosed s ch)
+  unfolding Tick.keptClosed
+  in-keptClosed s = in-shutDown (closed (s .clock) (ch .timetable))
+
   in-timersRun : Kept (Tick.timersRun ch)
   unfolding Tick.timersRun
   in-timersRun = refl
@@ -152,7 +163,7 @@ module _ (ch : Channel) where
   in-operated = go (inFlag ch)
     where
       go : (b : Bool) → inputs (cond b (withOperating (operatingTick (operatingTime ch)) ch) ch)
-          ≡ inputsOf (inFlag ch) (ch .config) (ch .counter) (ch .kept .counter) (cond b (operatingTick (operatingTime ch)) (operatingTime ch)) (ch .kept .operating)
+          ≡ inputsOf (inFlag ch) (ch .config) (ch .counter) (ch .kept .counter) (cond b (operatingTick (operatingTime ch)) (operatingTime ch)) (ch .kept .operating) (ch .timetable)
       go true = refl
       go false = refl
 
@@ -205,10 +216,11 @@ in-guarded s ch = either (Kept ch) (Tick.overloaded s ch) (in-changed _ _ ∙ in
 pub in-driven : (s : Shared) (out : Bool) (ch : Channel) → inputs (Tick.driven s out ch) ≡ inputs ch
 unfolding Tick.driven
 in-driven s out ch =
-    let off = Tick.shutDown out ch in
+    let off = Tick.keptClosed s (Tick.shutDown out ch) in
     let run = Tick.timersRun off in
     let driven = Tick.special (functions run) run in
-    in-guarded s (Rules.changed (outFlag ch) driven) ∙ in-changed driven (outFlag ch) ∙ in-special (functions run) run ∙ in-timersRun off ∙ in-shutDown ch out
+    in-guarded s (Rules.changed (outFlag ch) driven) ∙ in-changed driven (outFlag ch) ∙ in-special (functions run) run ∙ in-timersRun off
+    ∙ in-keptClosed (Tick.shutDown out ch) s ∙ in-shutDown ch out
 
 in-looked : (s : Shared) (levels : List Bool) (ch : Channel) → inputs (Tick.looked s levels ch) ≡ inputs ch
 unfolding Tick.looked

@@ -7,7 +7,8 @@ use native.Mathlib.Omega.{arith}
 use lib.Dec.{T}
 use Rattle.model.specs.declared.Refusal.{Refusal}
 use Rattle.model.specs.declared.Refusal.the-variants.{Beyond, Unlisted, NotWritable, WrongLength, BufferTooShort, NotEnabled, NotAllowed}
-use Rattle.model.specs.declared.Refusal.the-variants.{NoChannel, NotFinite, ImageLength, ImageCounts, ImageSum, ImageValues, NoRoom, NoTable}
+use Rattle.model.specs.declared.Refusal.the-variants.{NoChannel, NotFinite, ImageLength, ImageCounts, ImageSum, ImageValues, NoRoom, NoTable, NotMinute}
+use Rattle.model.specs.declared.Refusal.the-variants.{TooManyWindows}
 use Rattle.model.specs.declared.Reply.{Reply}
 use Rattle.model.specs.declared.Reply.the-variants.{Done, Refused}
 use Rattle.model.specs.Questions.{Question, asked, refusalNumber, numberOf}
@@ -54,6 +55,8 @@ refusal-number ImageSum = omega arith
 refusal-number ImageValues = omega arith
 refusal-number NoRoom = omega arith
 refusal-number NoTable = omega arith
+refusal-number NotMinute = omega arith
+refusal-number TooManyWindows = omega arith
 
 pub not-zero : {A : Type 0} (r : Refusal) → refusalNumber r ≡ 0 → A
 not-zero r e = absurd (omega (arith, refusal-number r))

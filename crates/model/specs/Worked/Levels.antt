@@ -12,6 +12,7 @@ use Rattle.model.specs.declared.Module.{Module}
 use Rattle.model.specs.declared.Pair.{Pair}
 use Rattle.model.specs.declared.LevelTable.{LevelTable}
 use Rattle.model.specs.State.{sharedOf, realsOf, moduleOf, dataChannel}
+use Rattle.model.specs.Hours.{unsetClock}
 use Rattle.model.specs.Lookup.{pairOf}
 use Rattle.model.specs.Restored.{poweredUp}
 use Rattle.model.specs.Calls.{lookUp, tick, powerUp, powerUpAnswer, storeAnswer}
@@ -74,7 +75,7 @@ levelBox = levelBoxWith rising falling
 abbrev pub lateBox : Module
 lateBox =
     let m = levelBox in
-    moduleOf (sharedOf (timer (pos 9215984)) (configOf 0x0010_0000) (timer (pos 0)) false 1151998) (m .service) (m .channels) (dataChannel m)
+    moduleOf (sharedOf (timer (pos 9215984)) (configOf 0x0010_0000) (timer (pos 0)) false 1151998 unsetClock) (m .service) (m .channels) (dataChannel m)
 
 -- ---- its image
 abbrev pub levelBytes : List ℕ

@@ -10,6 +10,7 @@ use Rattle.model.specs.declared.Module.{Module}
 use Rattle.model.specs.Image.{Entry, Setup}
 use Rattle.model.specs.Restored.{poweredUp}
 use Rattle.model.specs.State.{sharedOf, saveTicks}
+use Rattle.model.specs.Hours.{unsetClock}
 use Rattle.model.specs.Tick.{tickShared}
 use Rattle.model.specs.declared.Shared.{Shared}
 use Rattle.model.specs.Calls.{tick}
@@ -44,7 +45,7 @@ abbrev pub lateBox : Module
 lateBox =
     let m = saveBox in
     record {
-      shared = sharedOf (timer (pos 9215968)) (configOf 0x0010_0000) (timer (pos 0)) false 1151996;
+      shared = sharedOf (timer (pos 9215968)) (configOf 0x0010_0000) (timer (pos 0)) false 1151996 unsetClock;
       service = m .service;
       channels = m .channels;
       «data_channel» = m .«data_channel»;
@@ -52,7 +53,7 @@ lateBox =
 
 -- the shared record of a box so many ticks after a save
 abbrev pub afterTicks : ℕ → Shared
-afterTicks n = sharedOf (timer (pos 0)) (configOf 0) (timer (pos 0)) false n
+afterTicks n = sharedOf (timer (pos 0)) (configOf 0) (timer (pos 0)) false n unsetClock
 
 pub record Saves : Type 0 where
   -- A tick 7: the 1151999th tick keeps nothing
