@@ -1,15 +1,14 @@
--- The claim of specs/Runs.antt. What a call does to a channel's operating time is part of what the laws of Inputs say of each rule; here it is said of each call,
--- and of lists. Assumes nothing.
+-- The claim of specs/Runs.antt. What a call does to a channel's operating time is part of what the laws of Inputs say of each rule, and Stays of each call that
+-- leaves it; here it is said of ticks and of lists. Assumes nothing.
 use mathlib.Core.Path.{_≡_, refl, sym, _∙_, ap, subst}
 use mathlib.Core.Bool.{Bool, true, false, cond, _&&_, _||_, and-true}
 use mathlib.Core.List.{List, [], _∷_}
 use Prim.Native.Nat.{ℕ, zero, suc, _+_, _-_, _*_, _/_, _≤_, _<_}
 use native.Mathlib.Nat.{add-zero, add-suc}
 use native.Mathlib.Omega.{arith}
-use native.Mathlib.Decide.{ℕ-discrete}
 use lib.Dec.{eqb}
-use lib.ListN.{length, getD, set, length-set, length-map}
-use lib.Seq.{getD-set-same, getD-set-other}
+use lib.ListN.{length}
+use lib.Seq.{getD-set-same}
 use borrow.Author.Tests.{eqb-false}
 use Rattle.counts.specs.declared.Operating.{Operating}
 use Rattle.counts.specs.Counts.{operatingOf, quartersOf, operatingTick}
@@ -27,26 +26,26 @@ use Rattle.model.specs.declared.ServiceRegister.the-variants.{Highest, R
 use Rattle.model.specs.declared.DigitalRegister.the-variants.{FlagReg, OutTimer, Counter, OutCurrent, OperatingTime, UserBytes, FBTimer, FBPreset}
 use Rattle.model.specs.declared.DigitalRegister.the-variants.{OutPreset, ChConfig, MinCurrent, MaxCurrent, UserReals, Maintenance, ChError}
 use Rattle.model.specs.declared.CommonRegister.the-variants.{OutFlags, InFlags, IOChError, ChError as CommonChError}
-use Rattle.model.specs.State.{operatingTime, withTimetable, nothing, channelAt, putChannel, inFlag, writeEnable}
+use Rattle.model.specs.State.{operatingTime, withTimetable, nothing, channelAt, inFlag, writeEnable}
 use Rattle.model.specs.Hours.{timetableOf}
 use Rattle.model.specs.Registers.{Place, place, serviceRow, digitalRow}
 use Rattle.model.specs.Channel as Rules
 use Rattle.model.specs.Tick as Tick
-use Rattle.model.specs.Reads as Reads
 use Rattle.model.specs.Writes as Writes
 use Rattle.model.specs.Image as Image
 use Rattle.model.specs.Restored as Restored
 use Rattle.model.specs.Questions as Questions
 use Rattle.model.specs.Questions.{accepted}
 use Rattle.model.specs.Calls.{Request, read, write, sample, lookUp, minute, windows, tick, sortOf, step, run, cleared, watchdogPreset}
-use Rattle.model.specs.Calls.{readLeaves, writeLeaves, sampleLeaves, minuteLeaves, powerUp, poweredUpAs}
+use Rattle.model.specs.Calls.{writeLeaves, powerUp, poweredUpAs}
 use Rattle.model.specs.Runs.{timeOf, ticksBy, ticksOn, givesBy, gives, RunsAddUp, Runs}
 use Rattle.model.proofs.Laws.Tests.{either, neither}
-use Rattle.model.proofs.Laws.Lists.{length-each, at-each, at-map}
-use Rattle.model.proofs.Laws.Places.{place-cases, digital-place}
+use Rattle.model.proofs.Laws.Lists.{at-map}
+use Rattle.model.proofs.Laws.Places.{digital-place}
 use Rattle.model.proofs.Laws.Replies.{not-zero}
 use Rattle.model.proofs.Laws.Inputs.{Inputs, inputs, given, taken, kept-if, time-kept-if, operated-in, tick-in, in-sample, in-tick}
-use Rattle.model.proofs.Laws.InputRegisters.{write-in, in-written, in-read, every-in, in-every, common-in, in-common}
+use Rattle.model.proofs.Laws.InputRegisters.{write-in, in-written, every-in, in-every, common-in}
+use Rattle.model.proofs.Laws.Stays.{step-size, read-stays, written-stays, sample-stays, minute-stays}
 
 -- ---- what each register does to it
 taken-leaves : (who : Config → Bool) (b : Bool) (n : Inputs) → taken who b n .operating ≡ n .operating
@@ -103,103 +102,39 @@ ran-sum a (suc b) t = ap operatingTick (ran-sum a b t) ∙ ap (λ (n : ℕ). ran
 
 -- ---- what each call does to channel c of a box of sixteen
 module _ (c : ℕ) (1≤c : 1 ≤ c) (c≤16 : c ≤ 16) where
-  -- the box z has sixteen channels, and c's operating time is t
-  abbrev Holds : Operating → Module → Type 0
-  Holds t z = (length (z .channels) ≡ 16) × (timeOf z c ≡ t)
-
-  module _ (m : Module) (l : length (m .channels) ≡ 16) where
-    abbrev Left : Module → Type 0
-    Left z = Holds (timeOf m c) z
-
-    here : c - 1 < length (m .channels)
-    here = place-of c 1≤c c≤16 m l
-
-    -- one channel is put anew; where it is c, its operating time is as it was
-    put-left : (k : ℕ) (x : Channel) → (k - 1 ≡ c - 1 → operatingTime x ≡ timeOf m c) → Left (putChannel k x m)
-    put-left k x h = (length-set (m .channels) (k - 1) x ∙ l, go (ℕ-discrete (c - 1) (k - 1)))
-      where
-        go : Dec (c - 1 ≡ k - 1) → operatingTime (getD (set (m .channels) (k - 1) x) (c - 1) nothing) ≡ timeOf m c
-        go (yes e) =
-            ap (λ (j : ℕ). operatingTime (getD (set (m .channels) (k - 1) x) j nothing)) e
-            ∙ ap operatingTime (getD-set-same (m .channels) (k - 1) x nothing (subst (λ (j : ℕ). j < length (m .channels)) e here))
-            ∙ h (sym e)
-        go (no d) = ap operatingTime (getD-set-other (m .channels) (k - 1) (c - 1) x nothing d)
-
-    -- a rule on channel k that leaves the operating time
-    rule-left : (k : ℕ) (f : Channel → Channel) → (k - 1 ≡ c - 1 → (ch : Channel) → operatingTime (f ch) ≡ operatingTime ch) → Left (putChannel k (f (channelAt m k)) m)
-    rule-left k f h = put-left k (f (channelAt m k)) (λ e. h e (channelAt m k) ∙ ap (λ (j : ℕ). operatingTime (getD (m .channels) j nothing)) e)
-
-    -- an accepted write, but of c's OperatingTime and of SWNo 3
-    written-left : (n : ℕ) (bs : List ℕ) → (n ≡ c * 0x10 + 0x4 → ⊥) → (n ≡ 0x3 → ⊥) → Left (Writes.written (place n) bs m)
-    unfolding Writes.written
-    written-left n bs d d₃ =
-        place-cases (λ p. Left (Writes.written p bs m)) n (l, refl)
-        (λ e r q. (
-          length-map (m .channels) (Writes.everyWritten r) ∙ l,
-          ap operatingTime (at-map (Writes.everyWritten r) nothing (m .channels) (c - 1) here)
-              ∙ ap time (in-every r (channelAt m c)) ∙ every-leaves r (inputs (channelAt m c)) (λ z. d₃ (omega (arith, e, q, z))),
-        ))
-        (λ e r q. (
-          length-each (Writes.commonWritten r bs) 0 (m .channels) ∙ l,
-          ap operatingTime (at-each (Writes.commonWritten r bs) (m .channels) (c - 1) here)
-              ∙ ap time (in-common r bs (c - 1) (channelAt m c)) ∙ common-leaves r bs (c - 1) (inputs (channelAt m c)),
-        ))
-        (λ e r q. (l, refl))
-        (λ l₁ l₂ r q. rule-left (n / 16) (Writes.digitalWritten r (m .shared) bs) (λ e ch.
-        ap time (in-written r (m .shared) bs ch) ∙ write-leaves r (writeEnable (m .shared)) bs (inputs ch) (λ z. d (omega (arith, e, q, z, l₁, 1≤c)))))
-
-    read-left : (n : ℕ) → Left (Reads.afterRead (place n) m)
-    unfolding Reads.afterRead
-    read-left n =
-        place-cases (λ p. Left (Reads.afterRead p m)) n (l, refl) (λ e r q. (l, refl)) (λ e r q. (l, refl)) (λ e r q. (l, refl))
-        (λ l₁ l₂ r q. rule-left (n / 16) (Reads.digitalRead r) (λ e ch. ap time (in-read r ch)))
-
-    -- a sample
-    sample-left : (r : Reply) (k : ℕ) (f : Channel → Channel) → ((ch : Channel) → operatingTime (f ch) ≡ operatingTime ch) → Left
-        (sampleLeaves r k (f (channelAt m k)) m)
-    sample-left (Done n) k f h = rule-left k f (λ e. h)
-    sample-left (Refused q) k f h = (l, refl)
-
-    minute-left : (r : Reply) (n : ℕ) → Left (minuteLeaves r n m)
-    minute-left (Done q) n = (l, refl)
-    minute-left (Refused q) n = (l, refl)
-
-    -- a tick, which finds InFlag TRUE or FALSE
-    ticked-time : Holds (cond (inFlag (channelAt m c)) (operatingTick (timeOf m c)) (timeOf m c)) (Tick.ticked m)
-    unfolding Tick.ticked tick-in time-kept-if kept-if operated-in
-    ticked-time = (
-      length-map (m .channels) _ ∙ l,
-      ap operatingTime (at-map _ nothing (m .channels) (c - 1) here) ∙ ap time (in-tick _ _ _ _ (channelAt m c)),
-    )
-
-  -- ---- any call
-  read-time : (m : Module) → length (m .channels) ≡ 16 → (r : Reply) (n : ℕ) → Holds (timeOf m c) (readLeaves r (place n) m)
-  read-time m l (Done q) n = read-left m l n
-  read-time m l (Refused q) n = (l, refl)
-
-  write-time : (m : Module) → length (m .channels) ≡ 16 → (r : Reply) (n : ℕ) (bs : List ℕ) → (eqb n (c * 0x10 + 0x4) || eqb n 0x3) && accepted r ≡ false
-      → Holds (timeOf m c) (writeLeaves r (place n) bs m)
-  write-time m l (Done q) n bs e =
+  -- an accepted write, but of c's OperatingTime and of SWNo 3
+  write-time : (m : Module) (r : Reply) (n : ℕ) (bs : List ℕ) → (eqb n (c * 0x10 + 0x4) || eqb n 0x3) && accepted r ≡ false
+      → timeOf (writeLeaves r (place n) bs m) c ≡ timeOf m c
+  write-time m (Done q) n bs e =
       let (d, d₃) = neither (eqb n (c * 0x10 + 0x4)) (eqb n 0x3) (sym (and-true (eqb n (c * 0x10 + 0x4) || eqb n 0x3)) ∙ e) in
-      written-left m l n bs (eqb-false _ _ d) (eqb-false _ _ d₃)
-  write-time m l (Refused q) n bs e = (l, refl)
+      written-stays time c m 1≤c n bs
+      (λ r i x. every-leaves r x (λ z. eqb-false _ _ d₃ (i ∙ z)))
+      (λ r i x. write-leaves r (writeEnable (m .shared)) bs x (λ z. eqb-false _ _ d (i ∙ ap (λ (k : ℕ). c * 0x10 + k) z)))
+      (λ r i x. common-leaves r bs i x)
+  write-time m (Refused q) n bs e = refl
+
+  -- a tick, which finds InFlag TRUE or FALSE
+  ticked-time : (m : Module) → length (m .channels) ≡ 16
+      → timeOf (Tick.ticked m) c ≡ cond (inFlag (channelAt m c)) (operatingTick (timeOf m c)) (timeOf m c)
+  unfolding Tick.ticked tick-in time-kept-if kept-if operated-in
+  ticked-time m l = ap operatingTime (at-map _ nothing (m .channels) (c - 1) (place-of c 1≤c c≤16 m l)) ∙ ap time (in-tick _ _ _ _ (channelAt m c))
 
   on-time : (b : Bool) (t : Operating) → cond b (operatingTick t) t ≡ ranFor (cond b 1 0) t
   on-time true t = refl
   on-time false t = refl
 
   step-time : (m : Module) → length (m .channels) ≡ 16 → (x : Request) → givesBy c m (sortOf x) ≡ false
-      → Holds (ranFor (ticksBy (inFlag (channelAt m c)) (sortOf x)) (timeOf m c)) (step m x .box)
+      → timeOf (step m x .box) c ≡ ranFor (ticksBy (inFlag (channelAt m c)) (sortOf x)) (timeOf m c)
   unfolding step cleared watchdogPreset
-  step-time m l (read n lent) e = read-time (cleared m) l (Questions.readReply n (place n) lent) n
-  step-time m l (write n bs) e = write-time (cleared m) l (Questions.writeReply (writeEnable (m .shared)) n (place n) bs) n bs e
+  step-time m l (read n lent) e = read-stays time c (cleared m) (Questions.readReply n (place n) lent) n
+  step-time m l (write n bs) e = write-time (cleared m) (Questions.writeReply (writeEnable (m .shared)) n (place n) bs) n bs e
   step-time m l (sample k b x) e =
-      sample-left m l (Questions.sampleReply k x) k (Rules.takeSample (m .shared) b x)
-      (λ ch. ap time (in-sample (m .shared) b x ch) ∙ taken-leaves _ _ (inputs ch))
-  step-time m l (lookUp k x) e = (l, refl)
-  step-time m l (minute n) e = minute-left m l (Questions.minuteReply n) n
-  step-time m l (windows k ws) e = sample-left m l (Questions.windowsReply k ws) k (withTimetable (timetableOf ws)) (λ ch. refl)
-  step-time m l tick e = let h = ticked-time m l in (h .0, h .1 ∙ on-time (inFlag (channelAt m c)) (timeOf m c))
+      sample-stays time c m (Questions.sampleReply k x) k (Rules.takeSample (m .shared) b x)
+      (λ i ch. ap time (in-sample (m .shared) b x ch) ∙ taken-leaves _ _ (inputs ch))
+  step-time m l (lookUp k x) e = refl
+  step-time m l (minute n) e = minute-stays time c m (Questions.minuteReply n) n
+  step-time m l (windows k ws) e = sample-stays time c m (Questions.windowsReply k ws) k (withTimetable (timetableOf ws)) (λ i ch. refl)
+  step-time m l tick e = ticked-time m l ∙ on-time (inFlag (channelAt m c)) (timeOf m c)
 
   -- ---- a list
   runs-time : (m : Module) → length (m .channels) ≡ 16 → (xs : List Request) → gives c m xs ≡ false → timeOf (run m xs) c ≡ ranFor (ticksOn c m xs) (timeOf m c)
@@ -207,8 +142,8 @@ module _ (c : ℕ) (1≤c : 1 ≤ c) (c≤16 : c ≤ 16) where
   runs-time m l [] e = refl
   runs-time m l (x ∷ xs) e =
       let (p, q) = neither (givesBy c m (sortOf x)) (gives c (step m x .box) xs) e in
-      let h = step-time m l x p in
-      runs-time (step m x .box) (h .0) xs q ∙ ap (ranFor (ticksOn c (step m x .box) xs)) (h .1) ∙ ran-sum _ (ticksOn c (step m x .box) xs) (timeOf m c)
+      runs-time (step m x .box) (step-size m x ∙ l) xs q ∙ ap (ranFor (ticksOn c (step m x .box) xs)) (step-time m l x p)
+      ∙ ran-sum _ (ticksOn c (step m x .box) xs) (timeOf m c)
 
 add-up : (m : Module) → length (m .channels) ≡ 16 → RunsAddUp m
 add-up m l =

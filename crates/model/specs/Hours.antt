@@ -1,5 +1,5 @@
 -- Document 02, Change 6, 2 to 4: the minute of the week, a channel's windows, and when a channel is closed. Definitions only.
-use mathlib.Core.Bool.{Bool, true, false, not, cond, _&&_, _||_}
+use mathlib.Core.Bool.{Bool, false, not, cond, _&&_, _||_}
 use mathlib.Core.List.{List, [], _∷_, _++_, map}
 use Prim.Native.Nat.{ℕ, _+_, _*_, _/_, _%_}
 use lib.Dec.{leb, ltb}
@@ -7,8 +7,6 @@ use lib.ListN.{length, take, replicate}
 use Rattle.model.specs.declared.Window.{Window}
 use Rattle.model.specs.declared.Timetable.{Timetable}
 use Rattle.model.specs.declared.Clock.{Clock}
-use Rattle.model.specs.declared.Channel.{Channel}
-use Rattle.model.specs.declared.Shared.{Shared}
 
 -- ---- 2: the minute of the week, 0 to 10079
 abbrev pub isMinute : ℕ → Bool

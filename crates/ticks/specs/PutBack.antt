@@ -7,4 +7,4 @@ unfoldable pub putBack : Channel → Channel → Channel
 putBack after ch =
     channelWith (ch .config) (after .flags) (outTimer after) (fbTimer after) (outPreset ch) (fbPreset ch)
     (ch .currents) (after .errors) (ch .counter) (after .operating) (after .quarters)
-    (ch .user) (ch .reals) (ch .maintenance) (ch .kept)
+    (ch .user) (ch .reals) (ch .maintenance) (ch .timetable) (ch .kept)

@@ -40,8 +40,10 @@ pub fn tick_shared(s: Shared) -> Shared
 {
     let timer = s.free_run_timer;
     let saving = s.save_ticks;
+    let clock = s.clock;
     let mut next = s;
     next.free_run_timer = timer.free_run_tick();
+    next.clock = hours::tick(clock);
     if save_due(s) {
         next.save_ticks = 0;
         return next;

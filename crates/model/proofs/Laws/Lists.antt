@@ -3,7 +3,7 @@ use mathlib.Core.Path.{_≡_, refl, sym, _∙_, ap}
 use mathlib.Core.List.{List, [], _∷_, map}
 use Prim.Native.Nat.{ℕ, zero, suc, _+_, _<_}
 use native.Mathlib.Nat.{le-of-suc-le-suc, not-suc-le-zero, add-zero, suc-add, add-suc, zero-add}
-use lib.ListN.{length, getD}
+use lib.ListN.{length, getD, set}
 use Rattle.model.specs.declared.Channel.{Channel}
 use Rattle.model.specs.State.{nothing}
 use Rattle.model.specs.Writes.{each}
@@ -24,3 +24,29 @@ pub at-map : {A : Type 0} (f : A → Channel) (d : A) (xs : List A) (i : ℕ) �
 at-map f d [] i h = absurd (not-suc-le-zero h)
 at-map f d (x ∷ xs) zero h = refl
 at-map f d (x ∷ xs) (suc i) h = at-map f d xs i (le-of-suc-le-suc h)
+
+-- ---- what holds at a place, or of what stands past the end, holds there afterwards
+module _ (P : Channel → Type 0) where
+  pub at-mapped : (f : Channel → Channel) (cs : List Channel) (i : ℕ) → P nothing → P (f (getD cs i nothing)) → P (getD (map f cs) i nothing)
+  at-mapped f [] i n h = n
+  at-mapped f (x ∷ xs) zero n h = h
+  at-mapped f (x ∷ xs) (suc i) n h = at-mapped f xs i n h
+
+  -- under a rule that keeps it
+  pub kept-map : (f : Channel → Channel) → ((ch : Channel) → P ch → P (f ch)) → (cs : List Channel) (i : ℕ) → P (getD cs i nothing) → P (getD (map f cs) i nothing)
+  kept-map f p [] i h = h
+  kept-map f p (x ∷ xs) zero h = p x h
+  kept-map f p (x ∷ xs) (suc i) h = kept-map f p xs i h
+
+  pub kept-each : (f : ℕ → Channel → Channel) → ((n : ℕ) (ch : Channel) → P ch → P (f n ch)) → (n : ℕ) (cs : List Channel) (i : ℕ) → P (getD cs i nothing)
+      → P (getD (each f n cs) i nothing)
+  kept-each f p n [] i h = h
+  kept-each f p n (x ∷ xs) zero h = p n x h
+  kept-each f p n (x ∷ xs) (suc i) h = kept-each f p (suc n) xs i h
+
+  pub kept-set : (y : Channel) (cs : List Channel) (j i : ℕ) → (i ≡ j → P y) → P (getD cs i nothing) → P (getD (set cs j y) i nothing)
+  kept-set y [] j i p h = h
+  kept-set y (x ∷ xs) zero zero p h = p refl
+  kept-set y (x ∷ xs) zero (suc i) p h = h
+  kept-set y (x ∷ xs) (suc j) zero p h = h
+  kept-set y (x ∷ xs) (suc j) (suc i) p h = kept-set y xs j i (λ e. p (ap suc e)) h

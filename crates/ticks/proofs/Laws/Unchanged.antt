@@ -1,4 +1,4 @@
--- What steps 2 to 6 of a tick leave of a channel, rule by rule: its settings, presets, currents, Counter, the user's registers, and what is kept. So the
+-- What steps 2 to 6 of a tick leave of a channel, rule by rule: its settings, presets, currents, Counter, the user's registers, its windows, and what is kept. So the
 -- channel after them is the one before it with the other parts put back. Assumes nothing.
 use mathlib.Core.Path.{_≡_, refl, sym, ap, _∙_}
 use mathlib.Core.Bool.{Bool, not, _&&_, Bool·beq}
@@ -11,10 +11,12 @@ use Rattle.model.specs.declared.Config.{Config}
 use Rattle.model.specs.declared.Currents.{Currents}
 use Rattle.model.specs.declared.Function.{Function}
 use Rattle.model.specs.declared.Kept.{Kept}
+use Rattle.model.specs.declared.Timetable.{Timetable}
 use Rattle.model.specs.declared.Channel.{Channel}
 use Rattle.model.specs.declared.Shared.{Shared}
 use Rattle.model.specs.declared.Function.the-variants.{Input, Output, OneShot, DutyCycle, Timer}
 use Rattle.model.specs.State.{channelWith, outFlag, inFlag, control, outTimer, fbTimer, outPreset, fbPreset}
+use Rattle.model.specs.Hours.{closed}
 use Rattle.model.specs.Settings.{functions, silencesOverload}
 use Rattle.model.specs.Channel.{changed, tripped}
 use Rattle.model.specs.Tick as Tick
@@ -30,6 +32,7 @@ record Rest : Type 0 where
   user : List ℕ
   reals : List ℕ
   maintenance : List ℕ
+  timetable : Timetable
   kept : Kept
 
 abbrev rest : Channel → Rest
@@ -43,6 +46,7 @@ rest ch =
       user = ch .user;
       reals = ch .reals;
       maintenance = ch .maintenance;
+      timetable = ch .timetable;
       kept = ch .kept;
     }
 
@@ -50,7 +54,7 @@ rest ch =
 abbrev with-rest : Rest → Channel → Channel
 with-rest x ch =
     channelWith (x .config) (ch .flags) (outTimer ch) (fbTimer ch) (x .out-preset) (x .fb-preset) (x .currents) (ch .errors) (x .counter) (ch .operating) (ch .quarters)
-    (x .user) (x .reals) (x .maintenance) (x .kept)
+    (x .user) (x .reals) (x .maintenance) (x .timetable) (x .kept)
 
 put-back : (after ch : Channel) → rest after ≡ rest ch → putBack after ch ≡ after
 unfolding putBack
@@ -72,6 +76,10 @@ module _ (ch : Channel) where
   left-shutDown : (out : Bool) → Left (Tick.shutDown out ch)
   unfolding Tick.shutDown
   left-shutDown out = either Left out refl refl
+
+  left-keptClosed : (s : Shared) → Left (Tick.keptClosed s ch)
+  unfolding Tick.keptClosed
+  left-keptClosed s = left-shutDown (closed (s .clock) (ch .timetable))
 
   left-timersRun : Left (Tick.timersRun ch)
   unfolding Tick.timersRun
@@ -132,10 +140,11 @@ left-guarded s ch = either (Left ch) (Tick.overloaded s ch) (left-changed (tripp
 left-driven : (s : Shared) (out : Bool) (ch : Channel) → rest (Tick.driven s out ch) ≡ rest ch
 unfolding Tick.driven
 left-driven s out ch =
-    let off = Tick.shutDown out ch in
+    let off = Tick.keptClosed s (Tick.shutDown out ch) in
     let run = Tick.timersRun off in
     let x = Tick.special (functions run) run in
-    left-guarded s (changed (outFlag ch) x) ∙ left-changed x (outFlag ch) ∙ left-special (functions run) run ∙ left-timersRun off ∙ left-shutDown ch out
+    left-guarded s (changed (outFlag ch) x) ∙ left-changed x (outFlag ch) ∙ left-special (functions run) run ∙ left-timersRun off
+    ∙ left-keptClosed (Tick.shutDown out ch) s ∙ left-shutDown ch out
 
 left-looked : (s : Shared) (levels : List Bool) (ch : Channel) → rest (Tick.looked s levels ch) ≡ rest ch
 unfolding Tick.looked
