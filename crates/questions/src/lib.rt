@@ -180,15 +180,13 @@ fn are_minutes(windows: &[u32]) -> bool
 pub fn windows_reply(k: u8, windows: &[u32]) -> Reply
     ensures { λ r. ⌜ r ≡ windowsReply k (now (windows .entry)) ⌝ }
 {
-    let digital = is_digital(k);
-    let minutes = are_minutes(windows);
-    if !digital {
+    if !is_digital(k) {
         return Reply::Refused(Refusal::NoChannel);
     }
     if 8 < windows.len() {
         return Reply::Refused(Refusal::TooManyWindows);
     }
-    if !minutes {
+    if !are_minutes(windows) {
         return Reply::Refused(Refusal::NotMinute);
     }
     Reply::Done(0)

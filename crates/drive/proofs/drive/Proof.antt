@@ -7,6 +7,9 @@ use Rattle.drive.proofs.drive.Tie as tie
 shut-down-requires : tie.Need-shut-down-requires
 shut-down-requires c κs = search needs
 
+keep-closed-requires : tie.Need-keep-closed-requires
+keep-closed-requires c κs = search needs
+
 run-timers-requires : tie.Need-run-timers-requires
 run-timers-requires c κs = search needs
 
@@ -30,7 +33,8 @@ returns c = simp (
   c .before .before .special .ensures,
   c .before .before .before .functions .ensures,
   c .before .before .before .before .run-timers .ensures,
-  c .before .before .before .before .before .shut-down .ensures,
+  c .before .before .before .before .before .keep-closed .ensures,
+  c .before .before .before .before .before .before .shut-down .ensures,
 )
 
 pub drive-spec : {M : Type 1} → statement M
@@ -38,6 +42,7 @@ drive-spec =
     tie.close
     (tie.spec
     shut-down-requires
+    keep-closed-requires
     run-timers-requires
     functions-requires
     special-requires

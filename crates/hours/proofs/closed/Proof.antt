@@ -26,8 +26,12 @@ any-opens-requires c κs = search needs
 returns-4 : tie.Need-returns-4
 unfolding closed
 returns-4 c =
-    simp (c .any-opens .ensures, le-leb _ _ (c .before .before .if3 .left), le-leb _ _ (c .before .before .before .if2 .left),
-    le-leb _ _ (c .before .before .before .before .if1 .left))
+    simp (
+      c .any-opens .ensures,
+      le-leb _ _ (c .before .before .if3 .left),
+      le-leb _ _ (c .before .before .before .if2 .left),
+      le-leb _ _ (c .before .before .before .before .if1 .left),
+    )
 
 pub closed-spec : {M : Type 1} → statement M
 closed-spec = tie.close (tie.spec returns returns-2 returns-3 cast-any-opens any-opens-requires returns-4)

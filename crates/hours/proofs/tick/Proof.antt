@@ -29,8 +29,13 @@ set-to-requires c κs = search needs
 returns-4 : tie.Need-returns-4
 unfolding clockTicked
 returns-4 c =
-    simp (c .set-to .ensures, lt-ltb _ _ (c .before .if4 .taken), le-ltb _ _ (c .before .before .if3 .left), le-leb _ _ (c .before .before .before .if2 .left),
-    le-leb _ _ (c .before .before .before .before .if1 .left))
+    simp (
+      c .set-to .ensures,
+      lt-ltb _ _ (c .before .if4 .taken),
+      le-ltb _ _ (c .before .before .if3 .left),
+      le-leb _ _ (c .before .before .before .if2 .left),
+      le-leb _ _ (c .before .before .before .before .if1 .left),
+    )
 
 set-to-requires-2 : tie.Need-set-to-requires-2
 set-to-requires-2 c κs = search needs
@@ -38,8 +43,13 @@ set-to-requires-2 c κs = search needs
 returns-5 : tie.Need-returns-5
 unfolding clockTicked
 returns-5 c =
-    simp (c .set-to2 .ensures, le-ltb _ _ (c .before .if4 .left), le-ltb _ _ (c .before .before .if3 .left), le-leb _ _ (c .before .before .before .if2 .left),
-    le-leb _ _ (c .before .before .before .before .if1 .left))
+    simp (
+      c .set-to2 .ensures,
+      le-ltb _ _ (c .before .if4 .left),
+      le-ltb _ _ (c .before .before .if3 .left),
+      le-leb _ _ (c .before .before .before .if2 .left),
+      le-leb _ _ (c .before .before .before .before .if1 .left),
+    )
 
 pub tick-spec : {M : Type 1} → statement M
 tick-spec = tie.close (tie.spec returns returns-2 add-t5 returns-3 add-set-to set-to-requires returns-4 set-to-requires-2 returns-5)

@@ -1,6 +1,7 @@
 -- `special::one_shot` meets its contract. Assumes nothing.
 use borrow.Author.Needs.{needs}
-use Rattle.model.specs.Tick.{oneShot}
+use mathlib.Core.Path.{_∙_, ap}
+use Rattle.model.specs.Tick.{dropped, seen, timed, oneShot}
 use Rattle.drive.proofs.special.one_shot.Statement.{statement}
 use Rattle.drive.proofs.special.one_shot.Tie as tie
 
@@ -18,7 +19,9 @@ time-output-requires c κs = search needs
 
 returns : tie.Need-returns
 unfolding oneShot
-returns c = simp (c .time-output .ensures, c .before .see-control .ensures, c .before .before .drop-output .ensures, c .before .before .before .load .ensures)
+returns c =
+    c .time-output .ensures ∙ ap timed (c .before .see-control .ensures ∙ ap seen (c .before .before .drop-output .ensures ∙ ap dropped
+    (c .before .before .before .load .ensures)))
 
 pub one-shot-spec : {M : Type 1} → statement M
 one-shot-spec =

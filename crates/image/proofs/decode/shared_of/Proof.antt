@@ -27,8 +27,11 @@ part-timer-of-end c = search needs
 timer-of-requires : tie.Need-timer-of-requires
 timer-of-requires c κs = search needs
 
+unset-requires : tie.Need-unset-requires
+unset-requires c κs = search needs
+
 returns : tie.Need-returns
-returns c = rw (c .timer-of .ensures, c .before .before .config-from .ensures)
+returns c = rw (c .unset .ensures, c .before .timer-of .ensures, c .before .before .before .config-from .ensures)
 
 pub shared-of-spec : {M : Type 1} → statement M
 shared-of-spec =
@@ -42,4 +45,5 @@ shared-of-spec =
     part-timer-of-start
     part-timer-of-end
     timer-of-requires
+    unset-requires
     returns)
