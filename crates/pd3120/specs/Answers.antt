@@ -5,7 +5,7 @@ use mathlib.Core.List.{List, []}
 use Prim.Native.Nat.{ℕ}
 use lib.ListN.{length, take}
 use Rattle.model.specs.declared.Call.{Call}
-use Rattle.model.specs.declared.Call.the-variants.{Read, Write, Sample, LookUp, Tick}
+use Rattle.model.specs.declared.Call.the-variants.{Read, Write, Sample, LookUp, Minute, Windows, Tick}
 use Rattle.model.specs.declared.Module.{Module}
 use Rattle.model.specs.declared.Reply.{Reply}
 use Rattle.model.specs.declared.Reply.the-variants.{Done}
@@ -14,7 +14,7 @@ use Rattle.model.specs.declared.Shared.{Shared}
 use Rattle.model.specs.State.{channelAt}
 use Rattle.model.specs.Settings.{isDigital, output}
 use Rattle.model.specs.Questions.{numberOf}
-use Rattle.model.specs.Calls.{Request, read, write, sample, lookUp, tick, Stepped, answerOf, step, powerUp, powerUpAnswer, storeAnswer}
+use Rattle.model.specs.Calls.{Request, read, write, sample, lookUp, minute, windows, tick, Stepped, answerOf, step, powerUp, powerUpAnswer, storeAnswer}
 use Rattle.model.specs.Image.{setupOf, encode, imageSize}
 use Rattle.model.specs.Images.{Reached, PowersUpTo}
 use Rattle.model.specs.TwoLists.{LearnsNothing}
@@ -29,7 +29,7 @@ use Rattle.pd3120.specs.declared.lookups.LookedUp.{LookedUp}
 abbrev pub stepOf : Answered → List ℕ → Stepped
 stepOf r buf = record { answer = answerOf (r .reply) buf (r .«data_error») (r .«general_error») (r .«real_bits»); box = r .after }
 
--- of a sample
+-- of a sample, and of a call of opening hours
 abbrev pub sampleOf : Sampled → Stepped
 sampleOf r = record { answer = answerOf (r .reply) [] false false 0; box = r .after }
 
@@ -57,14 +57,16 @@ SharedBy f s v r = (m : Module) → m .shared ≡ s → m .service ≡ v → r �
 abbrev pub outputAt : Module → ℕ → Bool
 outputAt m k = isDigital k && output (channelAt m k)
 
--- ---- any call, as a value with its bytes beside it
+-- ---- any call, as a value with its bytes or its windows beside it
 -- the entry of a list that a call and its own slice make
-abbrev pub requestOf : Call → List ℕ → List ℕ → Request
-requestOf (Read n) written lent = read n lent
-requestOf (Write n) written lent = write n written
-requestOf (Sample k b x) written lent = sample k b x
-requestOf (LookUp k x) written lent = lookUp k x
-requestOf Tick written lent = tick
+abbrev pub requestOf : Call → List ℕ → List ℕ → List ℕ → Request
+requestOf (Read n) written ws lent = read n lent
+requestOf (Write n) written ws lent = write n written
+requestOf (Sample k b x) written ws lent = sample k b x
+requestOf (LookUp k x) written ws lent = lookUp k x
+requestOf (Minute n) written ws lent = minute n
+requestOf (Windows k) written ws lent = windows k ws
+requestOf Tick written ws lent = tick
 
 -- the buffer that its answer has: a read's is the lent one afterwards, any other call has none
 abbrev pub answerBuffer : Call → List ℕ → List ℕ
@@ -72,6 +74,8 @@ answerBuffer (Read n) lent = lent
 answerBuffer (Write n) lent = []
 answerBuffer (Sample k b x) lent = []
 answerBuffer (LookUp k x) lent = []
+answerBuffer (Minute n) lent = []
+answerBuffer (Windows k) lent = []
 answerBuffer Tick lent = []
 
 -- and the lent buffer, which a read alone changes
@@ -80,6 +84,8 @@ lentAfter (Read n) m lent = step m (read n lent) .answer .buffer
 lentAfter (Write n) m lent = lent
 lentAfter (Sample k b x) m lent = lent
 lentAfter (LookUp k x) m lent = lent
+lentAfter (Minute n) m lent = lent
+lentAfter (Windows k) m lent = lent
 lentAfter Tick m lent = lent
 
 -- ---- power-up: its answer and the box; of any image, that short runs add up in that very box; and of an accepted one, demand 3 for it, that it is stored again

@@ -10,8 +10,8 @@ use Rattle.model.specs.declared.DataChannel.{DataChannel}
 use Rattle.model.specs.declared.Module.{Module}
 use Rattle.model.specs.declared.Service.{Service}
 use Rattle.model.specs.declared.Shared.{Shared}
-use Rattle.model.specs.State.{dataChannel, nothing, withChannels}
-use Rattle.model.specs.Calls.{read, write, sample, lookUp, Stepped, answerOf, wireAnswer, step}
+use Rattle.model.specs.State.{dataChannel, nothing, withShared, withChannels}
+use Rattle.model.specs.Calls.{read, write, sample, lookUp, minute, windows, Stepped, answerOf, wireAnswer, step}
 use Rattle.errors.specs.declared.words.Words.{Words}
 use Rattle.errors.specs.Words.{wordsOf}
 use Rattle.registers.specs.Places.{slotOf}
@@ -20,6 +20,7 @@ use Rattle.writes.specs.declared.Begun.{Begun}
 use Rattle.writes.specs.Begun.{dataBy, wholeOf}
 use Rattle.pd3120.specs.declared.Changed.{Changed}
 use Rattle.pd3120.specs.declared.lookups.LookedUp.{LookedUp}
+use Rattle.pd3120.specs.declared.opening.MinuteSet.{MinuteSet}
 use Rattle.pd3120.specs.declared.samples.Taken.{Taken}
 use Rattle.pd3120.specs.Answers.{lookUpOf}
 
@@ -64,3 +65,14 @@ abbrev pub SampleBy : ℕ → Bool → Float → Shared → Channel → Taken �
 SampleBy k b x s ch r =
     (m : Module) → m .shared ≡ s → getD (m .channels) (slotOf k) nothing ≡ ch →
     record { answer = answerOf (r .reply) [] false false 0; box = withChannels (set (m .channels) (slotOf k) (r .after)) m } ≡ step m (sample k b x)
+
+-- the minute: the shared record put back
+abbrev pub MinuteBy : ℕ → Shared → MinuteSet → Type 0
+MinuteBy n s r =
+    (m : Module) → m .shared ≡ s → record { answer = answerOf (r .reply) [] false false 0; box = withShared (r .after) m } ≡ step m (minute n)
+
+-- windows for channel k: its channel put back. They look at no other part
+abbrev pub WindowsBy : ℕ → List ℕ → Channel → Taken → Type 0
+WindowsBy k ws ch r =
+    (m : Module) → getD (m .channels) (slotOf k) nothing ≡ ch →
+    record { answer = answerOf (r .reply) [] false false 0; box = withChannels (set (m .channels) (slotOf k) (r .after)) m } ≡ step m (windows k ws)

@@ -5,12 +5,13 @@ ghost use mathlib.Core.List.{[]};
 ghost use Rattle.model.specs.Errors.{dataError, generalError};
 ghost use Rattle.model.specs.Registers.{place};
 ghost use Rattle.model.specs.Questions.{readReply};
-ghost use Rattle.model.specs.Calls.{read, write, sample, lookUp, tick, step, cleared, watchdogPreset};
+ghost use Rattle.model.specs.Calls.{read, write, sample, lookUp, minute, windows, tick, step, cleared, watchdogPreset};
 ghost use Rattle.pd3120.specs.Answers.{stepOf, sampleOf, lookUpOf, tickOf, outputAt, requestOf, answerBuffer, lentAfter, RecordBy, SharedBy, PoweredUp};
 ghost use Rattle.pd3120.specs.Answers.{StoredBy, plainOf};
 ghost use Rattle.pd3120.specs.Parts.{ReadBy, WriteBy};
 
 pub mod lookups;
+pub mod opening;
 pub mod replies;
 pub mod samples;
 
@@ -57,7 +58,7 @@ pub struct WireBits {
     pub general_error: bool,
 }
 
-// What a sample answers, and the box that it leaves.
+// What a sample or a call of opening hours answers, and the box that it leaves.
 pub struct Sampled {
     pub after: Module,
     pub reply: Reply,
@@ -241,6 +242,40 @@ pub fn look_up(m: Module, table: u8, x: f32) -> LookedUp
     lookups::look_up(data, table, x)
 }
 
+// The minute of the week, 0 to 10079.
+pub fn set_minute(m: Module, of_week: u16) -> Sampled
+    ensures { λ r. ⌜ sampleOf r ≡ step m (minute «of_week») ⌝ }
+{
+    let shared = m.shared;
+    let set = opening::set_minute(shared, of_week);
+    let left = set.after;
+    let reply = set.reply;
+    let mut next = m;
+    next.shared = left;
+    Sampled {
+        after: next,
+        reply: reply,
+    }
+}
+
+// A channel's windows, given whole; none takes them away. Each is one number, its start times 65536
+// plus its end.
+pub fn set_windows(m: Module, channel: u8, given: &[u32]) -> Sampled
+    ensures { λ r. ⌜ sampleOf r ≡ step m (windows channel (now (given .entry))) ⌝ }
+{
+    let at = samples::slot(channel);
+    let ch = m.channels[at];
+    let taken = opening::set_windows(ch, channel, given);
+    let left = taken.after;
+    let reply = taken.reply;
+    let mut next = m;
+    next.channels[at] = left;
+    Sampled {
+        after: next,
+        reply: reply,
+    }
+}
+
 pub fn tick(m: Module) -> Module
     ensures { λ r. ⌜ tickOf r ≡ step m tick ⌝ }
 {
@@ -262,7 +297,7 @@ pub fn output(m: Module, channel: u8) -> bool
     settings::output(ch)
 }
 
-// A sample and a tick answer no bits.
+// Samples, calls of opening hours and ticks answer no bits.
 fn plain(s: Sampled) -> Answered
     ensures { λ r. ⌜ r ≡ plainOf s ⌝ }
 {
@@ -292,9 +327,10 @@ fn looked_up(m: Module, table: u8, x: f32) -> Answered
     }
 }
 
-// Any of the five calls: a write takes its bytes from written, a read lends lent.
-pub fn call(m: Module, c: Call, written: &[u8], lent: &mut [u8]) -> Answered
-    ensures answer { λ r. ⌜ stepOf r (answerBuffer c (now (lent .exit))) ≡ step m (requestOf c (now (written .entry)) (now (lent .entry))) ⌝ }
+// Any of the seven calls: a write takes its bytes from written, a channel's windows are those of
+// windows, and a read lends lent.
+pub fn call(m: Module, c: Call, written: &[u8], windows: &[u32], lent: &mut [u8]) -> Answered
+    ensures answer { λ r. ⌜ stepOf r (answerBuffer c (now (lent .exit))) ≡ step m (requestOf c (now (written .entry)) (now (windows .entry)) (now (lent .entry))) ⌝ }
     ensures buffer { λ r. ⌜ now (lent .exit) ≡ lentAfter c m (now (lent .entry)) ⌝ }
 {
     match c {
@@ -302,6 +338,8 @@ pub fn call(m: Module, c: Call, written: &[u8], lent: &mut [u8]) -> Answered
         Call::Write(swno) => write(m, swno, written),
         Call::Sample(channel, level, amperes) => plain(sample(m, channel, level, amperes)),
         Call::LookUp(table, x) => looked_up(m, table, x),
+        Call::Minute(minute) => plain(set_minute(m, minute)),
+        Call::Windows(channel) => plain(set_windows(m, channel, windows)),
         Call::Tick => plain(Sampled {
             after: tick(m),
             reply: Reply::Done(0),

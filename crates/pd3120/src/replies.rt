@@ -23,6 +23,8 @@ fn refusal_number(r: Refusal) -> u8
         Refusal::ImageValues => 13,
         Refusal::NoRoom => 14,
         Refusal::NoTable => 15,
+        Refusal::NotMinute => 18,
+        Refusal::TooManyWindows => 19,
     }
 }
 

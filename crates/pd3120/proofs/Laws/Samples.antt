@@ -1,7 +1,7 @@
--- A sample put together. Assumes nothing.
+-- A sample, or windows for a channel, put together. Assumes nothing.
 use mathlib.Core.Path.{_≡_, sym, ap, _∙_}
 use mathlib.Core.Bool.{true, false}
-use mathlib.Core.List.{[]}
+use mathlib.Core.List.{List, []}
 use Prim.Native.Nat.{ℕ, _-_}
 use lib.Ieee.{Float}
 use lib.ListN.{getD, set}
@@ -13,7 +13,7 @@ use Rattle.model.specs.declared.Reply.{Reply}
 use Rattle.model.specs.declared.Reply.the-variants.{Done, Refused}
 use Rattle.model.specs.State.{nothing, channelAt, withChannels}
 use Rattle.model.specs.Settings.{isDigital}
-use Rattle.model.specs.Questions.{sampleReply}
+use Rattle.model.specs.Questions.{sampleReply, windowsReply}
 use Rattle.model.specs.Calls.{Stepped, answerOf, sampledAs}
 use Rattle.registers.specs.Places.{slotOf}
 use Rattle.questions.proofs.Laws.Answers.{yes}
@@ -21,10 +21,14 @@ use Rattle.pd3120.specs.declared.Answered.{Answered}
 use Rattle.pd3120.specs.declared.Sampled.{Sampled}
 use Rattle.pd3120.specs.Answers.{stepOf, sampleOf, plainOf}
 
--- an accepted sample is for channel 1 to 16
+-- an accepted sample is for channel 1 to 16, and so are accepted windows
 pub is-digital : (k : ℕ) (x : Float) (n : ℕ) → sampleReply k x ≡ Done n → isDigital k ≡ true
 unfolding sampleReply
 is-digital k x n e = yes (isDigital k) _ _ n e .0
+
+pub has-channel : (k : ℕ) (ws : List ℕ) (n : ℕ) → windowsReply k ws ≡ Done n → isDigital k ≡ true
+unfolding windowsReply
+has-channel k ws n e = yes (isDigital k) _ _ n e .0
 
 -- ---- the box m with a channel put back at its place, and the answer, are the model's; q is the model's reply, and r the code's
 abbrev pub putBack : Reply → Channel → ℕ → Module → Stepped
