@@ -1,6 +1,8 @@
 pub mod Box
 pub mod Element
+pub mod First
 pub mod Grouped
+pub mod Item
 pub mod LookUp
 pub mod Output
 pub mod Parts
@@ -9,6 +11,7 @@ pub mod PowerUp
 pub mod Read
 pub mod Sample
 pub mod Slot
+pub mod Steps
 pub mod Store
 pub mod Tick
 pub mod TickLoop

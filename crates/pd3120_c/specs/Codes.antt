@@ -11,10 +11,10 @@ use Rattle.model.specs.declared.Module.{Module}
 use Rattle.model.specs.declared.Reply.{Reply}
 use Rattle.model.specs.declared.Service.{Service}
 use Rattle.model.specs.declared.Shared.{Shared}
-use Rattle.model.specs.State.{dataChannel, moduleOf, nothing, withChannels}
+use Rattle.model.specs.State.{dataChannel, moduleOf, nothing, withShared, withChannels}
 use Rattle.model.specs.Errors.{dataError, generalError}
 use Rattle.model.specs.Questions.{numberOf, lengthOf}
-use Rattle.model.specs.Calls.{read, write, sample, lookUp, tick, Answer, Stepped, step, powerUp, powerUpAnswer, storeAnswer}
+use Rattle.model.specs.Calls.{read, write, sample, lookUp, minute, windows, tick, Answer, Stepped, step, powerUp, powerUpAnswer, storeAnswer}
 use Rattle.model.specs.Image.{setupOf, encode, imageSize}
 use Rattle.model.specs.Images.{Reached, PowersUpTo}
 use Rattle.model.specs.TwoLists.{LearnsNothing}
@@ -27,6 +27,7 @@ use Rattle.writes.specs.Begun.{eachWritten, firstEach, dataBy}
 use Rattle.pd3120.specs.Parts.{Has}
 use Rattle.pd3120_c.specs.declared.ChannelDone.{ChannelDone}
 use Rattle.pd3120_c.specs.declared.ReadDone.{ReadDone}
+use Rattle.pd3120_c.specs.declared.SharedDone.{SharedDone}
 use Rattle.pd3120_c.specs.declared.WriteBegun.{WriteBegun}
 
 -- ---- codes: bits 0 to 7 the number, bits 8 to 23 the length, bit 24 DataError, bit 25 GeneralError
@@ -87,6 +88,16 @@ abbrev pub SampleLeft : ℕ → Bool → Float → Shared → Channel → Channe
 SampleLeft k b x s ch d =
     (m : Module) → m .shared ≡ s → getD (m .channels) (slotOf k) nothing ≡ ch →
     Left (step m (sample k b x)) (withChannels (set (m .channels) (slotOf k) (d .after)) m) (d .code)
+
+-- the shared record that a minute leaves, put back
+abbrev pub MinuteLeft : ℕ → Shared → SharedDone → Type 0
+MinuteLeft n s d = (m : Module) → m .shared ≡ s → Left (step m (minute n)) (withShared (d .after) m) (d .code)
+
+-- and the channel k that windows leave
+abbrev pub WindowsLeft : ℕ → List ℕ → Channel → ChannelDone → Type 0
+WindowsLeft k ws ch d =
+    (m : Module) → getD (m .channels) (slotOf k) nothing ≡ ch →
+    Left (step m (windows k ws)) (withChannels (set (m .channels) (slotOf k) (d .after)) m) (d .code)
 
 -- the two parts of the module that a read may change, put back
 abbrev pub ReadLeft : Shared → Service → Channel → DataChannel → Words → ℕ → List ℕ → ReadDone → List ℕ → Type 0

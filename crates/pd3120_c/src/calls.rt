@@ -4,10 +4,11 @@ ghost use mathlib.Core.Path.{_≡_};
 ghost use Rattle.model.specs.Errors.{dataError, generalError};
 ghost use Rattle.errors.specs.Words.{wordsOf};
 ghost use Rattle.writes.specs.Begun.{dataBy};
-ghost use Rattle.pd3120_c.specs.Codes.{packed, SampleLeft, ReadLeft, WriteLeft, eachLeft, LookedUpLeft, PoweredUp, Stored};
+ghost use Rattle.pd3120_c.specs.Codes.{packed, SampleLeft, ReadLeft, WriteLeft, eachLeft, LookedUpLeft, MinuteLeft, WindowsLeft, PoweredUp, Stored};
 use crate::ChannelDone;
 use crate::Done;
 use crate::ReadDone;
+use crate::SharedDone;
 use crate::WriteBegun;
 use crate::codes;
 use errors::words;
@@ -18,6 +19,7 @@ use model::Module;
 use model::Service;
 use model::Shared;
 use pd3120::lookups;
+use pd3120::opening;
 use pd3120::replies;
 use pd3120::samples;
 
@@ -118,6 +120,30 @@ pub fn sample(s: Shared, ch: Channel, channel: u8, level: bool, amperes: f32) ->
     ensures { λ r. ⌜ SampleLeft channel level amperes s ch r ⌝ }
 {
     let taken = samples::take(s, ch, channel, level, amperes);
+    let after = taken.after;
+    let reply = taken.reply;
+    ChannelDone {
+        after: after,
+        code: codes::pack(reply, false, false),
+    }
+}
+
+pub fn set_minute(s: Shared, minute: u16) -> SharedDone
+    ensures { λ r. ⌜ MinuteLeft minute s r ⌝ }
+{
+    let set = opening::set_minute(s, minute);
+    let after = set.after;
+    let reply = set.reply;
+    SharedDone {
+        after: after,
+        code: codes::pack(reply, false, false),
+    }
+}
+
+pub fn set_windows(ch: Channel, channel: u8, windows: &[u32]) -> ChannelDone
+    ensures { λ r. ⌜ WindowsLeft channel (now (windows .entry)) ch r ⌝ }
+{
+    let taken = opening::set_windows(ch, channel, windows);
     let after = taken.after;
     let reply = taken.reply;
     ChannelDone {

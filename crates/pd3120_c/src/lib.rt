@@ -2,7 +2,7 @@
 // wire call's bytes stand in the caller's buffer, and its answer is one number (specs/Codes.antt).
 // No function asks anything of its caller beyond what a reference itself carries.
 ghost use mathlib.Core.Path.{_≡_};
-ghost use Rattle.model.specs.Calls.{read, write, sample, lookUp, step};
+ghost use Rattle.model.specs.Calls.{read, write, sample, lookUp, minute, windows, step};
 ghost use Rattle.pd3120.specs.Answers.{outputAt};
 ghost use Rattle.pd3120_c.specs.Codes.{Left, LeftLent, Ticked, PoweredUp, Stored, lookUpCode};
 
@@ -22,9 +22,15 @@ pub struct Done {
     pub code: u32,
 }
 
-// The channel that a sample leaves, and the code of its answer.
+// The channel that a sample or its windows leave, and the code of the answer.
 pub struct ChannelDone {
     pub after: Channel,
+    pub code: u32,
+}
+
+// The shared record that a minute leaves, and the code of its answer.
+pub struct SharedDone {
+    pub after: Shared,
     pub code: u32,
 }
 
@@ -115,6 +121,27 @@ pub extern "C" fn pd3120_sample(m: &mut Module, channel: u8, level: bool, ampere
 {
     let at = samples::slot(channel);
     let done = calls::sample(m.shared, m.channels[at], channel, level, amperes);
+    m.channels[at] = done.after;
+    done.code
+}
+
+// The minute of the week, 0 to 10079.
+#[no_mangle]
+pub extern "C" fn pd3120_set_minute(m: &mut Module, of_week: u16) -> u32
+    ensures { λ r. ⌜ Left (step (now (m .entry)) (minute «of_week»)) (now (m .exit)) r ⌝ }
+{
+    let done = calls::set_minute(m.shared, of_week);
+    m.shared = done.after;
+    done.code
+}
+
+// A channel's windows, given whole, each its start times 65536 plus its end.
+#[no_mangle]
+pub extern "C" fn pd3120_set_windows(m: &mut Module, channel: u8, given: &[u32]) -> u32
+    ensures { λ r. ⌜ Left (step (now (m .entry)) (windows channel (now (given .entry)))) (now (m .exit)) r ⌝ }
+{
+    let at = samples::slot(channel);
+    let done = calls::set_windows(m.channels[at], channel, given);
     m.channels[at] = done.after;
     done.code
 }

@@ -13,16 +13,17 @@ use Rattle.model.specs.declared.Shared.{Shared}
 use Rattle.model.specs.State.{dataChannel, nothing, withChannels}
 use Rattle.model.specs.Errors.{dataError, generalError}
 use Rattle.model.specs.Questions.{numberOf, lengthOf}
-use Rattle.model.specs.Calls.{sample, Stepped, step}
+use Rattle.model.specs.Calls.{sample, minute, windows, Stepped, step}
 use Rattle.errors.specs.declared.words.Words.{Words}
 use Rattle.registers.specs.Places.{slotOf}
 use Rattle.writes.specs.declared.Begun.{Begun}
 use Rattle.writes.specs.Begun.{dataBy, wholeOf}
 use Rattle.pd3120.specs.declared.Changed.{Changed}
+use Rattle.pd3120.specs.declared.opening.MinuteSet.{MinuteSet}
 use Rattle.pd3120.specs.declared.samples.Taken.{Taken}
-use Rattle.pd3120.specs.Parts.{ReadBy, WriteBy, SampleBy}
+use Rattle.pd3120.specs.Parts.{ReadBy, WriteBy, SampleBy, MinuteBy, WindowsBy}
 use Rattle.pd3120_c.specs.declared.ChannelDone.{ChannelDone}
-use Rattle.pd3120_c.specs.Codes.{packed, replyCode, answerCode, Left, SampleLeft, ReadLeft, WriteLeft}
+use Rattle.pd3120_c.specs.Codes.{packed, replyCode, answerCode, Left, SampleLeft, MinuteLeft, WindowsLeft, ReadLeft, WriteLeft}
 
 -- the parts of a read put back
 pub read-left : (s : Shared) (v : Service) (ch : Channel) (d : DataChannel) (w : Words) (n : ℕ) (lent : List ℕ) (c : Changed) (lent′ : List ℕ) (code : ℕ)
@@ -57,10 +58,23 @@ write-left s v ch n bs b number h f l = (
       ),
 )
 
+-- a step that the library's call is, with its answer packed
+packed-step : (x z : Stepped) (code : ℕ) → z ≡ x → code ≡ answerCode (z .answer) → Left x (z .box) code
+packed-step x z code e f = (ap (λ (y : Stepped). y .box) e, f ∙ ap (λ (y : Stepped). answerCode (y .answer)) e)
+
 -- a sample's channel, of any module
 pub sample-done : (k : ℕ) (b : Bool) (x : Float) (s : Shared) (ch : Channel) (t : Taken) (code : ℕ) → SampleBy k b x s ch t
     → code ≡ replyCode (t .reply) false false → SampleLeft k b x s ch (record { after = t .after; code = code })
-sample-done k b x s ch t code h f = λ m e p. let q = h m e p in (ap (λ (z : Stepped). z .box) q, f ∙ ap (λ (z : Stepped). answerCode (z .answer)) q)
+sample-done k b x s ch t code h f = λ m e p. packed-step (step m (sample k b x)) _ code (h m e p) f
+
+-- the shared record of a minute, and the channel of windows
+pub minute-done : (n : ℕ) (s : Shared) (t : MinuteSet) (code : ℕ) → MinuteBy n s t → code ≡ replyCode (t .reply) false false
+    → MinuteLeft n s (record { after = t .after; code = code })
+minute-done n s t code h f = λ m e. packed-step (step m (minute n)) _ code (h m e) f
+
+pub windows-done : (k : ℕ) (ws : List ℕ) (ch : Channel) (t : Taken) (code : ℕ) → WindowsBy k ws ch t → code ≡ replyCode (t .reply) false false
+    → WindowsLeft k ws ch (record { after = t .after; code = code })
+windows-done k ws ch t code h f = λ m p. packed-step (step m (windows k ws)) _ code (h m p) f
 
 -- and of the caller's
 pub sample-left : (m : Module) (k : ℕ) (b : Bool) (x : Float) (i : ℕ) (d : ChannelDone) → i ≡ slotOf k

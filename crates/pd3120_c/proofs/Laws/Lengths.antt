@@ -17,19 +17,21 @@ use Rattle.model.specs.declared.Reply.{Reply}
 use Rattle.model.specs.declared.Reply.the-variants.{Done, Refused}
 use Rattle.model.specs.declared.Service.{Service}
 use Rattle.model.specs.declared.Shared.{Shared}
-use Rattle.model.specs.State.{writeEnable, serviceOf, moduleOf, nothing}
+use Rattle.model.specs.State.{config, writeEnable, serviceOf, moduleOf, nothing}
 use Rattle.model.specs.Registers.{Place, service, digital, common, data-channel, unlisted, dataRow, place, size}
-use Rattle.model.specs.Questions.{Question, asked, lengthOf, readReply, writeReply, sampleReply, lookUpReply, powerUpReply, storeReply}
-use Rattle.model.specs.Questions.{readQuestions, writeQuestions, sampleQuestions, lookUpQuestions, powerUpQuestions, storeQuestions}
+use Rattle.model.specs.Questions.{Question, asked, lengthOf, readReply, writeReply, sampleReply, lookUpReply, minuteReply, windowsReply, powerUpReply, storeReply}
+use Rattle.model.specs.Questions.{readQuestions, writeQuestions, sampleQuestions, lookUpQuestions, minuteQuestions, windowsQuestions, powerUpQuestions}
+use Rattle.model.specs.Questions.{storeQuestions}
 use Rattle.model.specs.Image.{imageSize, keptFrom}
-use Rattle.model.specs.Restored.{noServiceBits, restoredData}
-use Rattle.model.specs.Calls.{Request, read, write, sample, lookUp, tick, Answer, answerOf, Stepped, step, powerUpAnswer, storeAnswer}
+use Rattle.model.specs.Restored.{noServiceBits, restoredShared, restoredData}
+use Rattle.model.specs.Calls.{Request, read, write, sample, lookUp, minute, windows, tick, Answer, answerOf, Stepped, step, powerUpAnswer, storeAnswer}
 use Rattle.reads.proofs.Laws.Held.{service-fits, digital-fits, common-fits}
+use Rattle.pd3120.specs.declared.opening.MinuteSet.{MinuteSet}
 use Rattle.pd3120.specs.declared.samples.Taken.{Taken}
 use Rattle.registers.specs.Places.{slotOf}
 use Rattle.registers.proofs.Laws.{slot-fits}
 use Rattle.writes.specs.declared.Begun.{Begun}
-use Rattle.pd3120.specs.Parts.{Has, WriteBy, SampleBy}
+use Rattle.pd3120.specs.Parts.{Has, WriteBy, SampleBy, MinuteBy, WindowsBy}
 
 answered : (b : Bool) (r : Reply) (w : Refusal) (n : ℕ) → lengthOf r ≤ n → lengthOf (cond b r (Refused w)) ≤ n
 answered true r w n h = h
@@ -58,11 +60,13 @@ register-length (data-channel r) = data-length r
 register-length unlisted = omega arith
 
 pub step-length : (m : Module) (x : Request) → step m x .answer .length ≤ imageSize
-unfolding step readReply writeReply sampleReply lookUpReply
+unfolding step readReply writeReply sampleReply lookUpReply minuteReply windowsReply
 step-length m (read n lent) = let p = place n in within (size p) _ (asked-length (readQuestions n p lent) (size p)) (register-length p)
 step-length m (write n bs) = within 0 _ (asked-length (writeQuestions (writeEnable (m .shared)) n (place n) bs) 0) (omega arith)
 step-length m (sample k b x) = within 0 _ (asked-length (sampleQuestions k x) 0) (omega arith)
 step-length m (lookUp k x) = within 0 _ (asked-length (lookUpQuestions k x) 0) (omega arith)
+step-length m (minute n) = within 0 _ (asked-length (minuteQuestions n) 0) (omega arith)
+step-length m (windows k ws) = within 0 _ (asked-length (windowsQuestions k ws) 0) (omega arith)
 step-length m tick = omega arith
 
 pub read-length : (n : ℕ) (lent : List ℕ) (r : Reply) → r ≡ readReply n (place n) lent → lengthOf r ≤ imageSize
@@ -74,14 +78,30 @@ read-length n lent r e =
 pub reply-length : (m : Module) (x : Request) (r : Reply) (buf : List ℕ) (d g : Bool) → answerOf r buf d g 0 ≡ step m x .answer → lengthOf r ≤ imageSize
 reply-length m x r buf d g e = subst (λ (n : ℕ). n ≤ imageSize) (ap (λ (a : Answer). a .length) (sym e)) (step-length m x)
 
--- the contracts of samples and writes speak of every module that has the parts: here is one
+-- the contracts of samples, opening hours and writes speak of every module that has the parts: here is one
 someModule : Shared → Service → Channel → Module
 someModule s v ch = moduleOf s v (replicate 16 ch) (restoredData (keptFrom []))
+
+abbrev anyService : Service
+anyService = serviceOf (timer (pos 0)) noServiceBits noServiceBits
+
+pub minute-length : (n : ℕ) (s : Shared) (t : MinuteSet) → MinuteBy n s t → lengthOf (t .reply) ≤ imageSize
+unfolding someModule
+minute-length n s t h =
+    let m = someModule s anyService nothing in
+    reply-length m (minute n) (t .reply) [] false false (ap (λ (z : Stepped). z .answer) (h m refl))
+
+pub windows-length : (k : ℕ) (ws : List ℕ) (ch : Channel) (t : Taken) → WindowsBy k ws ch t → lengthOf (t .reply) ≤ imageSize
+unfolding someModule
+windows-length k ws ch t h =
+    let m = someModule (restoredShared (config 0 0 0 0) (timer (pos 0))) anyService ch in
+    reply-length m (windows k ws) (t .reply) [] false false
+    (ap (λ (z : Stepped). z .answer) (h m (getD-replicate 16 (slotOf k) ch nothing (slot-fits k))))
 
 pub sample-length : (k : ℕ) (b : Bool) (x : Float) (s : Shared) (ch : Channel) (t : Taken) → SampleBy k b x s ch t → lengthOf (t .reply) ≤ imageSize
 unfolding someModule
 sample-length k b x s ch t h =
-    let m = someModule s (serviceOf (timer (pos 0)) noServiceBits noServiceBits) ch in
+    let m = someModule s anyService ch in
     reply-length m (sample k b x) (t .reply) [] false false
     (ap (λ (z : Stepped). z .answer) (h m refl (getD-replicate 16 (slotOf k) ch nothing (slot-fits k))))
 

@@ -33,6 +33,9 @@ use Rattle.pd3120_c.proofs.Done.Laws as Dn′
 use Rattle.pd3120_c.specs.declared.ReadDone.{ReadDone}
 use Rattle.pd3120_c.proofs.ReadDone as Rd
 use Rattle.pd3120_c.proofs.ReadDone.Laws as Rd′
+use Rattle.pd3120_c.specs.declared.SharedDone.{SharedDone}
+use Rattle.pd3120_c.proofs.SharedDone as Sd
+use Rattle.pd3120_c.proofs.SharedDone.Laws as Sd′
 use Rattle.errors.specs.declared.words.Words.{Words}
 use Rattle.errors.proofs.words.Words as Wd
 use Rattle.errors.proofs.words.Words.Laws as Wd′
@@ -188,6 +191,22 @@ sampled = record {
   tells = Cd′.lowers .val-is;
   typed = λ 𝓤 H A W x v p. LL.lawful Cd.the-type Cd′.the-laws 𝓤 H A W .typed x _ p .0;
   fields = λ x vs p. let f = LL.owed Cd.the-type Cd′.the-laws x vs p in (own-value channel (x .after) _ (f .0), f .1 .0 .1);
+}
+
+-- a shared record and a code
+abbrev pub shared-answer : Packed shared
+shared-answer = record {
+  D = SharedDone;
+  name = Sd.struct .name;
+  written = Sd.the-row .written;
+  reaches = Sd.the-row .reaches;
+  own = Sd.the-row .own;
+  coded = Sd.the-row .coded;
+  after = λ d. d .after;
+  code = λ d. d .code;
+  tells = Sd′.lowers .val-is;
+  typed = λ 𝓤 H A W x v p. LL.lawful Sd.the-type Sd′.the-laws 𝓤 H A W .typed x _ p .0;
+  fields = λ x vs p. let f = LL.owed Sd.the-type Sd′.the-laws x vs p in (own-value shared (x .after) _ (f .0), f .1 .0 .1);
 }
 
 -- the parts of a read, and its code

@@ -25,7 +25,7 @@ use prog.Memory.{size}
 use prog.Wp.{Heap, Calls, Loops, WpFn, Tables}
 use ghost.Atoms.{Atoms, sem}
 use contract.Monad.{fact}
-use types.Kit.{Given, ‵, raw, _⊛_, some, later, _$_, _∵_, !, qed, by, move, keep, drop, use0, use1, use2, split, join, pick, rewrite}
+use types.Kit.{Given, ‵, raw, _⊛_, some, later, _$_, _∵_, !, qed, by, move, keep, drop, use1, use2, split, join, pick, rewrite}
 use types.Kit.{fsplit, fsplit3, fjoin, fjoin3, feqI, feqL, suffices, frame, await, done}
 use types.Run.{look, init, store, forget, stop, hop, fld, from, load, lit, bin, addr, and-then, no-more, of-opd, assigns, land, returns}
 use types.Run.{enter, alloc1, alloc0, params1, pass1, pass0, free1, free0}
@@ -34,13 +34,13 @@ use types.SemTy.{Body}
 use sound.WpLaws.{FmC, fmOf, WpFn-mono}
 use denote.RattleType.{owns}
 use denote.Laws.{Is, shows}
-use denote.Memory.{mem, pointee, cellAt}
+use denote.Memory.{mem, pointee}
 use denote.Plain.{uint-makes}
 use denote.Builtin.{u8, u32}
 use denote.Ref.{RefT, MutRef, ptr-vals, mut-tells}
 use denote.Slice.{sliceVal, MutSlice, Room, finally, slice-vals, mut-slice-tells}
 use denote.Signature.{plain, mutRefTo, mutSliceOf}
-use denote.Steps.{only, opens, closes, owned, peeks, heard, nothing}
+use denote.Steps.{only, opens, owned, peeks, heard, nothing}
 use denote.Struct.Steps.{spelt}
 use denote.Triple.Entry.{onEntry}
 use denote.Triple.Spec.{Meets, tripleOf}
@@ -51,11 +51,12 @@ use denote.Triple.Walked.{says, Stays, stay-ref, stay-none, gave-slice, walkOf, 
 use denote.Triple.Walked.{AllGo, goes-ref, goes-none, goes-gave-slice}
 use denote.Exit.{yes}
 use Rattle.pd3120_c.proofs.Walks.Plain.{Plain, row, vals, makes, value, related, lands, keeping, stating}
-use Rattle.pd3120_c.proofs.Walks.Grouped.{moved, laid, parts, Grouped, rows, Changes, changes, changes-layout}
-use Rattle.pd3120_c.proofs.Walks.Grouped.{item-at, item-is, item-val, item-typed, first-is, second-is, items-are, last-is, new-is}
+use Rattle.pd3120_c.proofs.Walks.Grouped.{Grouped, rows, Changes, changes, changes-layout}
+use Rattle.pd3120_c.proofs.Walks.Grouped.{item-at, item-is, item-val, item-typed, first-is, second-is, items-are, last-is}
 use Rattle.pd3120_c.proofs.Walks.Types.{count}
 use Rattle.pd3120_c.proofs.Walks.Element.{item}
-use Rattle.pd3120_c.proofs.Walks.Slot.{finder, found, Found, said-slot, to-slot, goes-slot}
+use Rattle.pd3120_c.proofs.Walks.Slot.{Found, at-slot}
+use Rattle.pd3120_c.proofs.Walks.Steps.{leaves-with}
 
 module _ (X Y Z L : Plain) (S : Grouped X Y Z L) (N I : Plain) (R : Changes Y Z) where
   abbrev S′ : Plain
@@ -118,9 +119,6 @@ module _ (X Y Z L : Plain) (S : Grouped X Y Z L) (N I : Plain) (R : Changes Y Z)
 
   abbrev pub with-parts : S .D → ℕ → R .D → S .D
   with-parts h k r = S .make (S .first h) (R .second r) (set (S .items h) k (R .item r)) (S .last h)
-
-  abbrev left-val : S .D → ℕ → R .D → Val
-  left-val h k r = parts X Y Z L (S .first h) (R .second r) (set (S .items h) k (R .item r)) (S .last h)
 
   module _ {M : Type 1} (𝓤 : URA M) (H : Heap 𝓤) (A : Atoms 𝓤) where
     -- what the callees ensure, as the walk cites it
@@ -233,14 +231,9 @@ module _ (X Y Z L : Plain) (S : Grouped X Y Z L) (N I : Plain) (R : Changes Y Z)
               pass1 ! (init ! 34 refl (tt, tt)) $ pass1 ! (init ! 32 refl (I .typed 𝓤 H A W i i-is)) $
               pass1 ! (init ! 30 refl (tt, (tt, (record { fits = room .0 }, tt)))) $ pass0 ! $
               -- the item's place
-              use0 W (raw (Found′ .pre (to-slot I 𝓤 H A P₀ i))) (goes-slot I 𝓤 H A P₀ W i i-is) $
-              calls-at ! fm Found′ finds (to-slot I 𝓤 H A P₀ i) (and-then ! (load ! (from ! (stop !)) (look ! 33 refl)) (no-more !)) (λ w₀.
-              use1 W (later (some (λ (k : ℕ). (‵ ftrue ⊛ ‵ (count .own k (w₀ ∷ [])))
-              ⊛ raw (ensured 𝓤 H A (finder I) (found I 𝓤 H A P₀) tt (i, tt) tt k)))) (id⊢ 𝓤 _) $
-              await ! tt $ pick ! (λ k. split ! $ move ! (1 ∷ []) $ use1 W (raw (fact 𝓤 (P₀ i k))) (said-slot I 𝓤 H A P₀ i k) $ heard ! (P₀ i k) (λ p₀.
-              split ! $ move ! (1 ∷ []) $ peeks ! (row count) (Is (row count)) (shows 𝓤 H A (row count)) k (w₀ ∷ []) (λ isk.
-              land ! (from ! (stop !)) (init ! 30 refl (lands count k w₀ isk 𝓤 H A W)) $
-              rewrite ! 30 (λ (u : Val). ‵ (fat fullShare (tyInt w64) l₄ 0 u)) (value count k w₀ isk) refl $ drop ! $ drop ! $
+              at-slot ! fm I P₀ finds i i-is (and-then ! (load ! (from ! (stop !)) (look ! 33 refl)) (no-more !)) (λ w₀ k p₀ isk.
+              land ! (from ! (stop !)) (init ! 28 refl (lands count k w₀ isk 𝓤 H A W)) $
+              rewrite ! 28 (λ (u : Val). ‵ (fat fullShare (tyInt w64) l₄ 0 u)) (value count k w₀ isk) refl $
               move ! (38 ∷ 39 ∷ 40 ∷ []) $ opens ! tt (row S′) {h = h} b o (λ vs.
               spelt ! (row S′) (Is (row S′)) (shows 𝓤 H A (row S′)) (vals S′) (S′ .tells) fullShare h vs b o $
               move ! (1 ∷ []) $ peeks ! (row S′) (Is (row S′)) (shows 𝓤 H A (row S′)) h (vals S′ h) (λ is. move ! (1 ∷ []) $
@@ -309,14 +302,8 @@ module _ (X Y Z L : Plain) (S : Grouped X Y Z L) (N I : Plain) (R : Changes Y Z)
               (Z .typed 𝓤 H A W (R .item r) (R .fields r (w ∷ []) isr .1 .0))) $
               assigns ! (of-opd ! (load ! (from ! (fld ! refl (stop !))) (look-in ! 32 (sub ! 2 refl (whole !))))) (from ! (stop !))
               (init ! 44 refl (tt, record { fits = R .fields r (w ∷ []) isr .1 .1 })) $
-              rewrite ! 4 (λ (ws : List Val). ‵ (fat fullShare (S′ .mir) b o (laid X Y Z L (S .first h) (R .second r) ws (S .last h))))
-              (moved Z (S .items h) k (R .item r)) refl $ move ! (4 ∷ []) $
-              use1 W (‵ (cellAt fullShare (S′ .mir ∷ []) (left-val h k r ∷ []) b o))
-              (W .laws .at-raw fullShare (S′ .mir) b o (left-val h k r)) $
-              owned ! (row S′) (Is (row S′)) (makes S′ 𝓤 H A) (with-parts h k r) _
-              (new-is X Y Z L S h is (R .second r) k (R .item r) (R .fields r (w ∷ []) isr .0) (R .fields r (w ∷ []) isr .1 .0)) $
-              move ! (1 ∷ 0 ∷ 6 ∷ 7 ∷ 8 ∷ []) $
-              closes ! tt (row S′) (with-parts h k r) (left-val h k r ∷ []) b o $
+              move ! (4 ∷ 5 ∷ 6 ∷ 7 ∷ []) $
+              leaves-with ! tt X Y Z L S b o h is (R .second r) k (R .item r) (R .fields r (w ∷ []) isr .0) (R .fields r (w ∷ []) isr .1 .0) $
               -- [obs; the borrow; the token; what the answer owns; buf's token; the last bytes; true; _18; …]
               returns ! (look ! 43 refl) $
               forget ! 7 refl $ forget ! 9 refl $ forget ! 11 refl $ forget ! 13 refl $ forget ! 15 refl $ forget ! 17 refl $ forget ! 19 refl $
@@ -330,7 +317,7 @@ module _ (X Y Z L : Plain) (S : Grouped X Y Z L) (N I : Plain) (R : Changes Y Z)
               free0 ! $
               keep ! (0 ∷ 1 ∷ 2 ∷ 4 ∷ 5 ∷ []) $ by ! (exits k r (zs .1 .1 .1 .1 .1 .1 .0)
               (follows h i (y .now) k v r (zs .1 .1 .1 .1 .1 .1 .0) (items-are X Y Z L S h is .1) p₀ p₁ e) l
-              (R .fields r (w ∷ []) isr .1 .1)))))))))))))))))))))))))))))))))))))
+              (R .fields r (w ∷ []) isr .1 .1))))))))))))))))))))))))))))))))))
 
       all-walk : (C : Calls 𝓤 H) (Λ : Loops 𝓤 H) → FmC 𝓤 H (W .laws) C → Triple 𝓤 (C slot) Found′ → Triple 𝓤 (C view) (Seen P₁)
           → Triple 𝓤 (C key) (Called P₂) → Walks 𝓤 H A outer stayed (WpFn 𝓤 H C Λ (fn-of slot view key)) (exported Q)

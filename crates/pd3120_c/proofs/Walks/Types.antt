@@ -1,4 +1,4 @@
--- The types of the exported functions' arguments, as the walks take them: numbers, a bool, a float, and bytes. Assumes nothing.
+-- The types of the exported functions' arguments, as the walks take them: numbers, a bool, a float, and slices of numbers. Assumes nothing.
 use mathlib.Core.Bool.{Bool}
 use mathlib.Core.List.{List, [], _∷_}
 use Prim.Native.Nat.{ℕ}
@@ -7,7 +7,7 @@ use lib.ListN.{length}
 use mir.Syntax.{Ty, Width, w8, w16, w32, w64, named, imm, tyInt, tyBool, tyFloat, tyRef, wrote}
 use mir.Val.{vbool, vint, vfloat}
 use base.Stored.{codedList}
-use denote.Builtin.{u8, f32, bool}
+use denote.Builtin.{f32, bool}
 use denote.Plain.{UInt, uint-tells, uint-lawful, bool-tells, bool-lawful}
 use denote.Floats.{float-tells, float-lawful}
 use denote.Ref.{RefT, refCoded}
@@ -68,22 +68,28 @@ real = record {
   pure = λ x vs. (tt, tt);
 }
 
--- ---- an input: bytes behind a reference
-abbrev slice : ℕ → Ty
-slice k = sliceTy (tyRef (named k) imm (tyInt w8))
+-- ---- an input: numbers behind a reference
+abbrev slice : ℕ → Width → Ty
+slice k w = sliceTy (tyRef (named k) imm (tyInt w))
+
+abbrev numbers : Width → Input 1
+numbers w = record {
+  D = RefT (List ℕ);
+  mir-out = slice 1 w;
+  mir-in = slice 0 w;
+  written-out = wrote (slice 1 w);
+  written-in = wrote (slice 0 w);
+  reaches = (UInt w .written, UInt w .mir) ∷ [];
+  own = λ κs. ShrSlice (named 1) (κs .0) (UInt w) .own;
+  coded = refCoded (codedList (UInt w .coded));
+  val = λ y. sliceVal (y .ptr) (length (y .now));
+  tells = λ κs. shr-slice-tells (named 1) (κs .0) (UInt w);
+  typed = λ 𝓤 H A W κs y p. shr-slice-lawful 𝓤 H A W (named 1) (κs .0) (UInt w) .typed y _ p .0;
+  twice = λ 𝓤 H A W κs. shr-slice-copy 𝓤 H A W (named 1) (κs .0) (UInt w) .twice;
+}
 
 abbrev pub bytes : Input 1
-bytes = record {
-  D = RefT (List ℕ);
-  mir-out = slice 1;
-  mir-in = slice 0;
-  written-out = wrote (slice 1);
-  written-in = wrote (slice 0);
-  reaches = (u8 .written, u8 .mir) ∷ [];
-  own = λ κs. ShrSlice (named 1) (κs .0) u8 .own;
-  coded = refCoded (codedList (u8 .coded));
-  val = λ y. sliceVal (y .ptr) (length (y .now));
-  tells = λ κs. shr-slice-tells (named 1) (κs .0) u8;
-  typed = λ 𝓤 H A W κs y p. shr-slice-lawful 𝓤 H A W (named 1) (κs .0) u8 .typed y _ p .0;
-  twice = λ 𝓤 H A W κs. shr-slice-copy 𝓤 H A W (named 1) (κs .0) u8 .twice;
-}
+bytes = numbers w8
+
+abbrev pub codes : Input 1
+codes = numbers w32

@@ -25,13 +25,13 @@ use mir.Syntax.{Name, Fn, named, unsigned, w32, w64, tyInt, tyBool, tyPtr, local
 use mir.Syntax.{assign, rvOpd, op2, mul, offset, addrOf, int, copy, call, seq}
 use mir.Val.{Val, vint, vptr}
 use base.Logic.{SProp, ent, sep, emp, via, fst∗, snd∗, exE, id⊢}
-use base.Fml.{GName, Lft, Share, Fml, ftrue, flft, fobs, fbor, fat}
+use base.Fml.{GName, Lft, Share, Fml, flft, fobs, fbor, fat}
 use prog.Memory.{size}
 use prog.Wp.{Heap, WpFn, Tables}
 use ghost.Atoms.{Atoms, sem}
 use contract.Monad.{fact}
 use contract.Lifetimes.{Lfts, Shares, toks}
-use types.Kit.{Given, ‵, raw, _⊛_, some, later, _$_, _∵_, !, qed, by, move, keep, drop, use0, use1, use2, split, join, pick, rewrite}
+use types.Kit.{Given, ‵, raw, _⊛_, some, later, _$_, _∵_, !, qed, by, move, keep, drop, use1, use2, split, join, pick, rewrite}
 use types.Kit.{fsplit, fsplit3, fjoin, fjoin3, feqI, suffices, frame, await, done}
 use types.Run.{look, init, forget, stop, hop, fld, from, load, lit, bin, addr, and-then, no-more, of-opd, assigns}
 use types.Run.{land, enter, alloc1, alloc0, params1, pass1, pass0}
@@ -45,8 +45,7 @@ use denote.Plain.{uint-makes}
 use denote.Builtin.{u32}
 use denote.Ref.{RefT, MutRef, ptr-vals, mut-tells}
 use denote.Signature.{plain, mutRefTo}
-use denote.Steps.{opens, owned, peeks, heard, nothing}
-use denote.Struct.Steps.{spelt}
+use denote.Steps.{owned, peeks, heard, nothing}
 use denote.Triple.Entry.{onEntry}
 use denote.Triple.Spec.{Meets, tripleOf}
 use denote.Triple.Statement.{Contract, Triple}
@@ -61,7 +60,8 @@ use Rattle.pd3120_c.proofs.Walks.Grouped.{Grouped, rows, item-at, item-
 use Rattle.pd3120_c.proofs.Walks.Parts.{Opened, opened, Anew}
 use Rattle.pd3120_c.proofs.Walks.Types.{count}
 use Rattle.pd3120_c.proofs.Walks.Element.{item}
-use Rattle.pd3120_c.proofs.Walks.Slot.{finder, found, Found, said-slot, to-slot, goes-slot}
+use Rattle.pd3120_c.proofs.Walks.Slot.{Found, at-slot}
+use Rattle.pd3120_c.proofs.Walks.Steps.{enters}
 use Rattle.pd3120_c.proofs.Walks.WriteLoop.{ref, Called, Finished}
 use Rattle.pd3120_c.proofs.Walks.WriteParts.{onward, Wrote, left-by as left, parts-walk}
 
@@ -210,19 +210,11 @@ module _ {n : ℕ} (X Y Z L : Plain) (S : Grouped X Y Z L) (I : Plain) (J : Inpu
               pass1 ! (init ! 54 refl (tt, tt)) $ pass1 ! (init ! 52 refl (I .typed 𝓤 H A W i i-is)) $ pass1 ! (init ! 50 refl (J .typed 𝓤 H A W κs j j-is)) $
               pass0 ! $
               -- the item's place
-              use0 W (raw (Found′ .pre (to-slot I 𝓤 H A P₀ i))) (goes-slot I 𝓤 H A P₀ W i i-is) $
-              calls-at ! (fmOf 𝓤 H (W .laws) 𝓣) Found′ finds (to-slot I 𝓤 H A P₀ i) (and-then ! (load ! (from ! (stop !)) (look ! 53 refl)) (no-more !)) (λ w.
-              use1 W (later (some (λ (a : ℕ). (‵ ftrue ⊛ ‵ (count .own a (w ∷ [])))
-              ⊛ raw (ensured 𝓤 H A (finder I) (found I 𝓤 H A P₀) tt (i, tt) tt a)))) (id⊢ 𝓤 _) $
-              await ! tt $ pick ! (λ a. split ! $ move ! (1 ∷ []) $ use1 W (raw (fact 𝓤 (P₀ i a))) (said-slot I 𝓤 H A P₀ i a) $ heard ! (P₀ i a) (λ p₀.
-              split ! $ move ! (1 ∷ []) $ peeks ! (row count) (Is (row count)) (shows 𝓤 H A (row count)) a (w ∷ []) (λ isa.
-              land ! (from ! (stop !)) (init ! 50 refl (lands count a w isa 𝓤 H A W)) $
-              rewrite ! 50 (λ (u : Val). ‵ (fat fullShare (tyInt w64) l₄ 0 u)) (value count a w isa) refl $ drop ! $ drop ! $
+              at-slot ! (fmOf 𝓤 H (W .laws) 𝓣) I P₀ finds i i-is (and-then ! (load ! (from ! (stop !)) (look ! 53 refl)) (no-more !)) (λ w a p₀ isa.
+              land ! (from ! (stop !)) (init ! 48 refl (lands count a w isa 𝓤 H A W)) $
+              rewrite ! 48 (λ (u : Val). ‵ (fat fullShare (tyInt w64) l₄ 0 u)) (value count a w isa) refl $
               -- [_28; …; _0; …; obs; the borrow; the token; what j owns; its tokens; what j owns; true]
-              move ! (58 ∷ 59 ∷ 60 ∷ []) $ opens ! tt (row S′) {h = h} b o (λ vs.
-              spelt ! (row S′) (Is (row S′)) (shows 𝓤 H A (row S′)) (vals S′) (S′ .tells) fullShare h vs b o $
-              move ! (1 ∷ []) $ peeks ! (row S′) (Is (row S′)) (shows 𝓤 H A (row S′)) h (vals S′ h) (λ is. drop ! $
-              use1 W (‵ (fat fullShare (S′ .mir) b o (S′ .val h))) (W .laws .raw-at fullShare (S′ .mir) b o (S′ .val h)) $
+              move ! (58 ∷ 59 ∷ 60 ∷ []) $ enters ! tt S′ {h = h} b o (λ is.
               -- [m's cell; the open borrow; obs; auth; _28; …; _0; …; what j owns; its tokens; what j owns; true]
               assigns ! (of-opd ! (load ! (from ! (hop ! (look ! 58 refl) (fld ! refl (stop !)))) (look-in ! 0 (sub ! 0 refl (whole !))))) (from ! (stop !))
               (init ! 46 refl (X .typed 𝓤 H A W (S .first h) (first-is X Y Z L S h is))) $
@@ -257,7 +249,7 @@ module _ {n : ℕ} (X Y Z L : Plain) (S : Grouped X Y Z L) (I : Plain) (J : Inpu
               ∷ 18 ∷ 16 ∷ 14 ∷ 12 ∷ 10 ∷ 8 ∷ 6 ∷ []) $
               by ! (parts-walk X Y Z L S I J B 𝓤 H A W write key finish P₃ g P₂ κ κs q qs b o γ h is i i-is j Post a (below i a p₀) r (related B′ r w′ isr)
               (few _ _ _ i j r p₁) (λ d so u e. exits a r d u (follows h i j a r d u (items-are X Y Z L S h is .1) p₀ p₁ so e)) 𝓣 writes-it known finishes
-              l₀ l₁ l₂ l₃ l₄ l₅ l₆ l₇ l₈ l₉ l₁₀ l₁₁ l₁₂ l₁₃ l₁₄ l₁₅ l₁₆ l₁₇ l₁₈ l₁₉ l₂₀ l₂₁ l₂₂ l₂₃ l₂₄ l₂₅ l₂₆ l₂₇ l₂₈))))))))))))))))))))))))))))))))))))))))
+              l₀ l₁ l₂ l₃ l₄ l₅ l₆ l₇ l₈ l₉ l₁₀ l₁₁ l₁₂ l₁₃ l₁₄ l₁₅ l₁₆ l₁₇ l₁₈ l₁₉ l₂₀ l₂₁ l₂₂ l₂₃ l₂₄ l₂₅ l₂₆ l₂₇ l₂₈))))))))))))))))))))))))))))))))))))
 
       module _ (below : (i : I .D) (a : ℕ) → P₀ i a → a < S .count)
           (few : (s : X .D) (v : Y .D) (c : Z .D) (i : I .D) (j : J .D) (r : B .D) → P₁ s v c i j r → B .count r ≤ S .count)
