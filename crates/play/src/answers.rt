@@ -196,5 +196,7 @@ pub(crate) fn put_answer(
         Line::Charge(earlier, later, litres) => {
             put_charge(out, at, earlier, later, litres, blocks)
         }
+        Line::Minute(_) => put_plain(out, at, b"minute", reply),
+        Line::Windows(_) => put_plain(out, at, b"windows", reply),
     }
 }

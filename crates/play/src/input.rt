@@ -56,9 +56,8 @@ fn run_line(p: Player, line: &[u8], space: &mut [u8], out: &mut [u8], at: usize)
     let number = next_number(p.line);
     let m = p.after;
     let parsed = parse(p.long, line, space);
-    let asked = parsed.line;
     let n = parsed.n;
-    let answered = calls::perform(m, asked, &mut space[0..n]);
+    let answered = calls::perform(m, parsed, &mut space[0..n]);
     let after = answered.after;
     let reply = answered.reply;
     let to = answers::put_answer(

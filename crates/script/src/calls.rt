@@ -12,7 +12,8 @@ const LENT: u8 = 0xA5;
 const LONGEST_STORE: u64 = 4096;
 
 // What a line asks for. The bytes of an image, a write or a lent buffer stand beside it, and so do
-// the blocks of a charge, of which the line itself has the bits of two counters and the litres.
+// the blocks of a charge, of which the line itself has the bits of two counters and the litres, and
+// a channel's windows.
 pub enum Line {
     Empty,
     Error(Wrong),
@@ -24,6 +25,8 @@ pub enum Line {
     LookUp(u8, u32),
     Tick(u32),
     Charge(u32, u32, u32),
+    Minute(u16),
+    Windows(u8),
 }
 
 // The blocks of a charge: how many there are, and the limits and prices of the first.
@@ -41,21 +44,51 @@ pub(crate) fn no_blocks() -> Blocks {
     }
 }
 
-// A line, how many bytes it has put at the start of the lent space, and its blocks.
+// The windows of a channel: how many there are, and each as the box takes it, its start in the high
+// half of the number and its end in the low half.
+pub struct Windows {
+    pub count: usize,
+    pub numbers: [u32; 16],
+}
+
+pub(crate) fn no_windows() -> Windows {
+    Windows {
+        count: 0,
+        numbers: [0; 16],
+    }
+}
+
+// How many windows there are, as a bound that a caller can go by: no line is taken with more.
+pub fn window_count(w: Windows) -> usize
+    ensures { λ r. ⌜ r ≤ length (w .numbers) ⌝ }
+{
+    let count = w.count;
+    if count < 16 { count } else { 16 }
+}
+
+// A line, how many bytes it has put at the start of the lent space, its blocks and its windows.
 pub struct Parsed {
     pub line: Line,
     pub n: usize,
     pub blocks: Blocks,
+    pub windows: Windows,
+}
+
+fn with_count(line: Line, n: usize) -> Parsed
+    ensures { λ r. ⌜ r .n ≤ n ⌝ }
+{
+    Parsed {
+        line: line,
+        n: n,
+        blocks: no_blocks(),
+        windows: no_windows(),
+    }
 }
 
 pub fn plain(line: Line) -> Parsed
     ensures { λ r. ⌜ r .n ≤ 0 ⌝ }
 {
-    Parsed {
-        line: line,
-        n: 0,
-        blocks: no_blocks(),
-    }
+    with_count(line, 0)
 }
 
 pub fn wrong(why: Wrong) -> Parsed
@@ -78,11 +111,7 @@ fn with_bytes(line: Line, word: &[u8], space: &mut [u8]) -> Parsed
         return wrong(Wrong::OddDigits);
     }
     let n = digits::parse_bytes(word, space);
-    Parsed {
-        line: line,
-        n: n,
-        blocks: no_blocks(),
-    }
+    with_count(line, n)
 }
 
 pub fn parse_power(count: usize, word: &[u8], space: &mut [u8]) -> Parsed
@@ -121,11 +150,7 @@ pub fn parse_store(count: usize, word: &[u8], space: &mut [u8]) -> Parsed
         return wrong(length_why);
     }
     let n = lend(space, length.value as usize);
-    Parsed {
-        line: Line::Store,
-        n: n,
-        blocks: no_blocks(),
-    }
+    with_count(Line::Store, n)
 }
 
 pub fn parse_wire(

@@ -146,6 +146,7 @@ fn with_blocks(counts: Counts, text: &[u8], n: usize) -> Parsed
         line: Line::Charge(counts.earlier, counts.later, counts.litres),
         n: 0,
         blocks: blocks,
+        windows: calls::no_windows(),
     }
 }
 

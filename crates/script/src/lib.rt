@@ -7,4 +7,5 @@ mod digits;
 pub mod lines;
 pub mod parameters;
 pub mod print;
+mod windows;
 pub mod words;

@@ -6,6 +6,7 @@ use crate::calls::Line;
 use crate::calls::Parsed;
 use crate::charges;
 use crate::parameters::Wrong;
+use crate::windows;
 use crate::words;
 
 // The most bytes of a line without its line feed.
@@ -21,6 +22,8 @@ enum Name {
     LookUp,
     Tick,
     Charge,
+    Minute,
+    Windows,
     Unknown,
 }
 
@@ -49,17 +52,25 @@ fn name_of(word: &[u8]) -> Name {
     if words::same(word, b"charge") {
         return Name::Charge;
     }
+    if words::same(word, b"minute") {
+        return Name::Minute;
+    }
+    if words::same(word, b"windows") {
+        return Name::Windows;
+    }
     Name::Unknown
 }
 
-// count is that of all words after the call's name; after holds those past the third.
+// count is that of all words after the call's name; past_first holds those past the first, and
+// past_third those past the third.
 fn parse_call(
     name: Name,
     count: usize,
     first: &[u8],
     second: &[u8],
     third: &[u8],
-    after: &[u8],
+    past_first: &[u8],
+    past_third: &[u8],
     space: &mut [u8],
 ) -> Parsed
     ensures { λ r. ⌜ r .n ≤ length (now (space .exit)) ⌝ }
@@ -72,7 +83,9 @@ fn parse_call(
         Name::Sample => calls::parse_sample(count, first, second, third),
         Name::LookUp => calls::parse_look_up(count, first, second),
         Name::Tick => calls::parse_tick(count, first),
-        Name::Charge => charges::parse_charge(count, first, second, third, after),
+        Name::Charge => charges::parse_charge(count, first, second, third, past_third),
+        Name::Minute => windows::parse_minute(count, first),
+        Name::Windows => windows::parse_windows(count, first, past_first),
         Name::Unknown => calls::wrong(Wrong::UnknownCall),
     }
 }
@@ -93,6 +106,7 @@ fn parse_rest(name: Name, rest: &[u8], space: &mut [u8]) -> Parsed
         &rest[first..first_end],
         &rest[second..second_end],
         &rest[third..third_end],
+        &rest[first_end..],
         &rest[third_end..],
         space,
     )

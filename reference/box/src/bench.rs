@@ -77,6 +77,26 @@ pub fn with_watchdog(preset: i32) -> Bench {
     })
 }
 
+/// A box with the watchdog off in which all sixteen channels are outputs, have
+/// the same windows and are switched on, and the minute is set: what each of
+/// its ticks does, it does with opening hours to look at.
+pub fn with_hours(windows: &[(u16, u16)], minute: u16) -> Bench {
+    let mut settings = Settings {
+        module_config: Config::from_bytes([0, 0x10, 0, 0]),
+        ..Settings::default()
+    };
+    for kept in &mut settings.channels {
+        kept.config = Config::from_bytes([0, 0x10, 0, 0]);
+    }
+    let mut bench = Bench::with(settings);
+    for channel in 1..=16 {
+        assert_eq!(bench.device.windows(channel, windows), 0);
+    }
+    assert_eq!(bench.device.minute(minute), 0);
+    assert_eq!(bench.write(0x110, &[0xFF, 0xFF]), 0);
+    bench
+}
+
 /// A channel just restored with a ChConfig.
 pub fn with_channel(config: [u8; 4]) -> Channel {
     Channel::restored(Kept {

@@ -8,6 +8,7 @@ mod writes;
 use crate::channel::{Channel, Config};
 use crate::data::DataChannel;
 use crate::errors::{EXTERNAL_RESET, INTERNAL_RESET, RUN_OUT};
+use crate::hours::Clock;
 use crate::image::{self, Settings};
 use crate::reals::{self, Real};
 use crate::registers::{Digital, Register, Service};
@@ -30,6 +31,8 @@ pub struct ChannelBox {
     pub act: u8,
     /// Ticks since the last save.
     pub save_count: u32,
+    /// Change 6: the minute of the week.
+    pub clock: Clock,
 }
 
 /// What a wire call answers: "a number (0 = done), a length (0 for a write or
@@ -54,7 +57,7 @@ impl Default for ChannelBox {
 impl ChannelBox {
     /// "Power-up restores these, WDTimer := WDPreset, all else 0; His bit 7
     /// is set, Act not. Reset does the same from the kept values, with His
-    /// bit 6 instead."
+    /// bit 6 instead." Change 6: the minute is "unset after power-up or reset".
     fn restored(settings: Settings, his: u8) -> ChannelBox {
         ChannelBox {
             module_config: settings.module_config,
@@ -67,6 +70,7 @@ impl ChannelBox {
             his,
             act: 0,
             save_count: 0,
+            clock: Clock::default(),
         }
     }
 
@@ -119,7 +123,7 @@ impl ChannelBox {
     /// A level and a current in amperes for a channel. Change 3: "Its questions
     /// are 8, then 9, and a refused sample does neither."
     pub fn sample(&mut self, channel: u8, level: bool, amperes: Real) -> u8 {
-        match self.sampled(channel) {
+        match self.digital(channel) {
             None => 8,
             Some(_) if !reals::is_finite(amperes) => 9,
             Some(channel) => {
@@ -129,8 +133,8 @@ impl ChannelBox {
         }
     }
 
-    /// "Samples: channel 1 to 16? 8."
-    fn sampled(&mut self, channel: u8) -> Option<&mut Channel> {
+    /// "Samples: channel 1 to 16? 8." Change 6: windows are asked the same.
+    pub(crate) fn digital(&mut self, channel: u8) -> Option<&mut Channel> {
         let index = usize::from(channel).checked_sub(1)?;
         self.channels.get_mut(index)
     }

@@ -5,6 +5,7 @@ mod operating;
 
 pub use config::{Config, Function};
 
+use crate::hours::Windows;
 use crate::reals::{self, Real};
 
 /// "FlagReg bits: 7 OutFlag, 6 InFlag, 5 InA, 4 InB, 3 Control, 2 FBStatus,
@@ -67,11 +68,14 @@ pub struct Channel {
     pub out_current: Real,
     pub his: u8,
     pub act: u8,
+    /// Change 6: "Each channel has up to eight windows".
+    pub windows: Windows,
 }
 
 impl Channel {
     /// A channel restored from its kept values, "all else 0". Change 2: "the
-    /// left-over quarters are lost at reset", and so at power-up.
+    /// left-over quarters are lost at reset", and so at power-up. Change 6: the
+    /// windows are "emptied by reset".
     pub fn restored(kept: Kept) -> Channel {
         Channel {
             kept,

@@ -9,9 +9,10 @@
 //! setup image." Of document 02 (the change requests), Change 1 is built, the
 //! data channel, $13, Change 2, the quarters of an operating count, Change 3,
 //! one sample for level and current, Change 4, the water charge from two
-//! readings, and Change 5, times written that become the nearest count. Their
-//! sentences are named "Change 1:" and so on, or stand in quotation marks in
-//! [`data`] and [`charge`].
+//! readings, Change 5, times written that become the nearest count, and
+//! Change 6, opening hours by the minute of the week. Their sentences are named
+//! "Change 1:" and so on, or stand in quotation marks in [`data`], [`charge`]
+//! and [`hours`].
 
 pub mod calls;
 pub mod channel;
@@ -19,6 +20,7 @@ pub mod charge;
 pub mod data;
 pub mod errors;
 pub mod generator;
+pub mod hours;
 pub mod image;
 pub mod player;
 pub mod reals;

@@ -5,6 +5,7 @@ mod call;
 mod charge;
 mod device;
 mod reply;
+mod windows;
 mod words;
 
 pub use call::Call;

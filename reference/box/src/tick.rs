@@ -16,13 +16,17 @@ impl ChannelBox {
     /// One tick. No tick changes an InFlag, so that channels can be taken one
     /// after the other.
     pub fn tick(&mut self) {
+        // Change 6: the minute is advanced "as each 1920th tick [...] begins".
+        self.clock.begin_tick();
+        let minute = self.clock.now();
         let run_out = self.count_service();
         let look = self.free_run_timer % LOOK == 0;
         let in_flags = self.in_flags();
         // Change 1: "TimerA and TimerB as OutTimer".
         self.data.count_timers(STEP);
         for channel in &mut self.channels {
-            channel.tick(run_out, look, in_flags);
+            let cleared = run_out || channel.is_closed(minute);
+            channel.tick(cleared, look, in_flags);
         }
         self.count_to_save();
     }
@@ -57,9 +61,13 @@ impl ChannelBox {
 }
 
 impl Channel {
-    fn tick(&mut self, run_out: bool, look: bool, in_flags: u16) {
+    /// OutFlag and Control are cleared by the watchdog, in step 1, or, Change 6,
+    /// outside all windows, "after the watchdog and before the special
+    /// function". Either way the change rule of step 3 compares with the tick's
+    /// start, and InternalState is left to the special function.
+    fn tick(&mut self, cleared: bool, look: bool, in_flags: u16) {
         let start = self.out_flag;
-        if run_out {
+        if cleared {
             self.out_flag = false;
             self.control = false;
         }
@@ -221,3 +229,5 @@ impl Channel {
 
 #[cfg(test)]
 mod tests;
+#[cfg(test)]
+pub(crate) mod wrong;

@@ -20,6 +20,7 @@ const KINDS: &[&str] = &[
     "runs",
     "samples",
     "charges",
+    "hours",
     "mixed",
 ];
 
@@ -74,7 +75,7 @@ fn the_scripts_reach_every_number_of_every_call() {
         let answers = played(&generated(seed, 3000, "refusals"));
         seen.extend(answers.lines().map(name_and_number));
     }
-    let expected: [(&str, &[u32]); 7] = [
+    let expected: [(&str, &[u32]); 9] = [
         ("power", &[0, 10, 11, 12, 13]),
         ("store", &[0, 14]),
         ("read", &[0, 1, 2, 5]),
@@ -82,6 +83,8 @@ fn the_scripts_reach_every_number_of_every_call() {
         ("sample", &[0, 8, 9]),
         ("tick", &[0]),
         ("lookup", &[0, 7, 15]),
+        ("minute", &[0, 18]),
+        ("windows", &[0, 8, 18, 19]),
     ];
     let expected: BTreeSet<(String, String)> = expected
         .iter()
@@ -132,8 +135,33 @@ fn the_scripts_of_the_format_are_answered_line_for_line() {
     let calls = calls.filter(|line| line.is_some_and(|line| !line.trim().is_empty()));
     let answers = played(script);
     assert_eq!(calls.count(), answers.lines().count());
-    for answer in ["charge 0 0", "charge 16 0", "charge 17 0"] {
+    for answer in [
+        "charge 0 0",
+        "charge 16 0",
+        "charge 17 0",
+        "minute 0",
+        "minute 18",
+        "windows 0",
+        "windows 8",
+        "windows 18",
+        "windows 19",
+    ] {
         assert!(answers.lines().any(|line| line == answer), "{answer}");
+    }
+}
+
+/// Change 6: every number of minutes and windows within one script.
+#[test]
+fn the_scripts_of_hours_reach_every_number_of_theirs() {
+    for seed in 1..=3 {
+        let answers = played(&generated(seed, 1700, "hours"));
+        let seen: BTreeSet<_> = answers.lines().map(name_and_number).collect();
+        let minutes = ["0", "18"].map(|number| ("minute", number));
+        let windows = ["0", "8", "18", "19"].map(|number| ("windows", number));
+        for (name, number) in minutes.into_iter().chain(windows) {
+            let what = (name.to_string(), number.to_string());
+            assert!(seen.contains(&what), "seed {seed}: {name} {number}");
+        }
     }
 }
 

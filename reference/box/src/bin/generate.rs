@@ -5,7 +5,8 @@
 //! feedback, currents, errors, images, refusals, reset, ends (of ranges), save
 //! (the ten-hour save), tables (the data channel and its lookups), runs (pump
 //! runs and their quarters), samples (level and current together), charges (the
-//! water charge), and mixed, which is all of them and the default.
+//! water charge), hours (opening hours), and mixed, which is all of them and the
+//! default.
 
 use reference_box::generator::kinds::{self, Kind};
 use std::io::{self, Write};
@@ -14,7 +15,7 @@ use std::process::ExitCode;
 const USAGE: &str = "usage: generate SEED CALLS [KIND]
 SEED and CALLS are decimal numbers; KIND is one of registers, ticks, watchdog,
 feedback, currents, errors, images, refusals, reset, ends, save, tables, runs,
-samples, charges, mixed.";
+samples, charges, hours, mixed.";
 
 /// The seed, the number of calls and the kind that the arguments ask for.
 fn parse(arguments: &[String]) -> Option<(u64, usize, Kind)> {

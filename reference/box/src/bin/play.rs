@@ -15,6 +15,8 @@
 //! | `tick [N]`        | `tick 0`, one line for N ticks                  |
 //! | `lookup TABLE REAL` | `lookup NUMBER REAL`, `00000000` where refused |
 //! | `charge EARLIER LATER LITRES [LIMIT PRICE]... PRICE` | `charge NUMBER CENTS`, `0` where refused |
+//! | `minute N`        | `minute NUMBER`                                 |
+//! | `windows CH [START END]...` | `windows NUMBER`                      |
 //!
 //! `store` lends N bytes of $A5, N up to 4096. SWNO is hexadecimal, up to
 //! $FFFF; CH and TABLE are decimal, up to 255; LEVEL is 0 or 1; REAL is a
@@ -28,6 +30,9 @@
 //! litre, up to 4294967295, LIMIT, in litres, up to 18446744073709551615. The
 //! blocks stand in order, the last a price alone; up to eight are taken in, and
 //! where there is none, there is no word after LITRES. CENTS are decimal.
+//!
+//! N of `minute`, a minute of the week, and START and END of a window are
+//! decimal, up to 65535. Of windows up to sixteen pairs are taken in, also none.
 //!
 //! Every other line changes nothing and gets `error LINE: WHY`, with LINE
 //! counted from 1. WHY is the first of these that holds, words being looked

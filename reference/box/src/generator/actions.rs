@@ -3,10 +3,13 @@
 
 mod calm;
 mod charges;
+mod closing;
 mod corners;
 mod data;
 mod ends;
+mod hours;
 mod images;
+mod minutes;
 mod nearest;
 mod quarters;
 mod reads;
@@ -20,10 +23,13 @@ mod writes;
 
 pub use calm::*;
 pub use charges::*;
+pub use closing::*;
 pub use corners::*;
 pub use data::*;
 pub use ends::*;
+pub use hours::*;
 pub use images::*;
+pub use minutes::*;
 pub use nearest::*;
 pub use quarters::*;
 pub use reads::*;

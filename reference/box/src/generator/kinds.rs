@@ -23,6 +23,7 @@ pub enum Kind {
     Runs,
     Samples,
     Charges,
+    Hours,
     Mixed,
 }
 
@@ -43,6 +44,7 @@ pub const KINDS: &[(&str, Kind)] = &[
     ("runs", Kind::Runs),
     ("samples", Kind::Samples),
     ("charges", Kind::Charges),
+    ("hours", Kind::Hours),
     ("mixed", Kind::Mixed),
 ];
 

@@ -1,5 +1,6 @@
 //! The script being written, and what its writer knows of the box.
 
+mod hours;
 mod readings;
 
 use super::random::Random;
@@ -10,6 +11,7 @@ use crate::player::Call;
 use crate::reals;
 use crate::registers::{Access, Digital, Register};
 use crate::CHANNELS;
+use hours::Timetable;
 use readings::Played;
 use std::fmt::Write;
 
@@ -46,6 +48,8 @@ pub struct Script {
     touched: u16,
     write_enable: bool,
     ticks: u64,
+    /// The minute and the windows, as far as the writer knows them.
+    timetable: Timetable,
     calls: Vec<Call>,
     /// The box that the calls so far leave.
     played: Played,
@@ -65,6 +69,7 @@ impl Script {
             touched: 0,
             write_enable: false,
             ticks: 0,
+            timetable: Timetable::default(),
             calls: Vec::new(),
             played: Played::default(),
         };
@@ -110,6 +115,7 @@ impl Script {
         self.write_enable = false;
         self.terminals = Default::default();
         self.ticks = 0;
+        self.timetable = Timetable::default();
     }
 
     pub fn store(&mut self, length: usize) {
@@ -249,6 +255,7 @@ impl Script {
     pub fn tick(&mut self, count: u64) {
         self.calls.push(Call::Tick(count as u32));
         self.ticks += count;
+        self.timetable.pass(count);
     }
 
     /// How many ticks there are up to and with the next save.

@@ -2,12 +2,14 @@
 
 mod above;
 mod holding;
+mod opening;
 mod running;
 
 use super::actions::{self as act, Action};
 use super::kinds::Kind;
 use above::CHARGES;
 use holding::{ENDS, IMAGES, REFUSALS, REGISTERS, RESET, SAVE, TABLES};
+use opening::HOURS;
 use running::{CURRENTS, ERRORS, FEEDBACK, RUNS, SAMPLES, TICKS, WATCHDOG};
 
 /// Actions with their weights.
@@ -31,6 +33,7 @@ impl Kind {
             Kind::Runs => RUNS,
             Kind::Samples => SAMPLES,
             Kind::Charges => CHARGES,
+            Kind::Hours => HOURS,
             Kind::Mixed => MIXED,
         }
     }
@@ -49,6 +52,10 @@ const MIXED: Table = &[
     (1, act::charge),
     (1, act::refused_charge),
     (1, act::charge_readings),
+    (2, act::short_hours),
+    (1, act::give_windows),
+    (1, act::set_minute),
+    (1, act::refused_hours),
     (1, act::refocus),
 ];
 
@@ -68,6 +75,7 @@ pub const PHASES: &[(u64, Kind)] = &[
     (2, Kind::Tables),
     (2, Kind::Runs),
     (3, Kind::Samples),
-    (2, Kind::Charges),
-    (2, Kind::Mixed),
+    (3, Kind::Charges),
+    (3, Kind::Hours),
+    (3, Kind::Mixed),
 ];

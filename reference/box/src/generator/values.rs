@@ -1,8 +1,9 @@
-//! Random values: counts, Reals, configurations, lookup tables, images and
-//! charges.
+//! Random values: counts, Reals, configurations, lookup tables, images, charges
+//! and opening hours.
 
 mod charges;
 mod currents;
+mod hours;
 mod lookups;
 mod nearest;
 mod numbers;
@@ -15,6 +16,10 @@ pub use charges::{
     refused_litres, small_blocks, Blocks,
 };
 pub use currents::{current, quiet_current, refused_current, sample_current, tripping_current};
+pub use hours::{
+    away, closed_windows, edge, minute, open_windows, refused_minute, refused_windows, REFUSALS,
+    WEEK,
+};
 pub use lookups::{table, x_for};
 pub use nearest::{half_count, rounded_time, ties, typed_time, Unit};
 pub use numbers::{end_count, end_real, limit, signed_time, small_count, time};

@@ -3,7 +3,10 @@
 use super::charge::Charge;
 use super::device::Device;
 use super::reply::{hexadecimal, Reply};
-use super::words::{bit, bytes, decimal, decimal_word, real_of, small, swno_of, words_of, Why};
+use super::windows::{windows_line, windows_of};
+use super::words::{
+    bit, bytes, decimal, decimal_word, minute_of, real_of, small, swno_of, words_of, Why,
+};
 use std::fmt;
 
 const LONGEST_STORE: u64 = 4096;
@@ -23,6 +26,10 @@ pub enum Call {
     Lookup(u8, u32),
     /// Change 4: two Counter values, litres per pulse and the blocks.
     Charge(Charge),
+    /// Change 6: a minute of the week.
+    Minute(u16),
+    /// Change 6: a channel and its windows, each a start and an end.
+    Windows(u8, Vec<(u16, u16)>),
 }
 
 impl Call {
@@ -50,6 +57,8 @@ impl Call {
             }
             (b"lookup", [table, real]) => Ok(Call::Lookup(small(table)?, real_of(real)?)),
             (b"charge", _) => Charge::from_words(words).map(Call::Charge),
+            (b"minute", [minute]) => Ok(Call::Minute(minute_of(minute)?)),
+            (b"windows", _) => windows_of(words),
             (b"tick", []) => Ok(Call::Tick(1)),
             (b"tick", [count]) => Ok(Call::Tick(decimal_word(count)?)),
             _ if is_name(name) => Err(Why::WrongNumberOfWords),
@@ -85,6 +94,8 @@ impl Call {
                 Reply::Lookup(number, real)
             }
             Call::Charge(charge) => charge.make(device),
+            Call::Minute(minute) => Reply::Minute(device.minute(*minute)),
+            Call::Windows(channel, windows) => Reply::Windows(device.windows(*channel, windows)),
         }
     }
 }
@@ -92,18 +103,21 @@ impl Call {
 /// "A wire call is for the channel of its SWNo, a sample for its own channel,
 /// refused ones included". Change 1: "Data calls are never strangers' calls":
 /// a wire call of $13 is for channel 19, a lookup for none. Change 4: a charge
-/// stands "above the box" and is no call on it at all.
+/// stands "above the box" and is no call on it at all. Change 6: "Timetable
+/// calls for a stranger are struck with its other calls; setting the minute is a
+/// call of everyone."
 impl Call {
     /// The channel that a call is for, digital or not.
     pub fn channel(&self) -> Option<u16> {
         match self {
             Call::Read(swno, _) | Call::Write(swno, _) => Some(swno >> 4),
-            Call::Sample(channel, ..) => Some(u16::from(*channel)),
+            Call::Sample(channel, ..) | Call::Windows(channel, _) => Some(u16::from(*channel)),
             Call::Power(_)
             | Call::Store(_)
             | Call::Tick(_)
             | Call::Lookup(..)
-            | Call::Charge(_) => None,
+            | Call::Charge(_)
+            | Call::Minute(_) => None,
         }
     }
 
@@ -128,13 +142,17 @@ impl fmt::Display for Call {
             Call::Tick(count) => write!(formatter, "tick {count}"),
             Call::Lookup(table, x) => write!(formatter, "lookup {table} {x:08x}"),
             Call::Charge(charge) => charge.fmt(formatter),
+            Call::Minute(minute) => write!(formatter, "minute {minute}"),
+            Call::Windows(channel, windows) => {
+                formatter.write_str(&windows_line(*channel, windows))
+            }
         }
     }
 }
 
 fn is_name(word: &[u8]) -> bool {
-    let names: [&[u8]; 7] = [
-        b"power", b"store", b"read", b"write", b"sample", b"tick", b"lookup",
+    let names: [&[u8]; 8] = [
+        b"power", b"store", b"read", b"write", b"sample", b"tick", b"lookup", b"minute",
     ];
     names.contains(&word)
 }
@@ -169,6 +187,11 @@ mod tests {
             charge(-1, 10, u32::MAX, &[], &[u32::MAX]),
             charge(i32::MIN, i32::MAX, 1, &[0, u64::MAX], &[0, 7, 8]),
             charge(1, 2, 10, &[7, 6, 5, 4, 3, 2, 1], &[8; 8]),
+            Call::Minute(0),
+            Call::Minute(65_535),
+            Call::Windows(0, vec![]),
+            Call::Windows(255, vec![(0, 65_535)]),
+            Call::Windows(16, (0..16).map(|start| (start, 600 - start)).collect()),
         ] {
             let line = call.to_string();
             assert_eq!(Call::parse(line.as_bytes()), Ok(Some(call)), "{line}");
@@ -176,7 +199,7 @@ mod tests {
     }
 
     #[test]
-    fn a_call_is_for_the_channel_of_its_swno_or_its_sample() {
+    fn a_call_is_for_the_channel_of_its_swno_its_sample_or_its_windows() {
         assert_eq!(Call::Read(0x11F, vec![]).channel(), Some(17));
         assert_eq!(Call::Write(0x120, vec![]).channel(), Some(18));
         assert_eq!(Call::Write(0x00D, vec![1]).channel(), Some(0));
@@ -187,6 +210,10 @@ mod tests {
         assert_eq!(Call::Lookup(1, 0).channel(), None);
         assert!(Call::Read(0x130, vec![]).is_wire() && !Call::Lookup(1, 0).is_wire());
         assert!(!Call::Sample(1, true, 0).is_wire());
+        assert_eq!(Call::Windows(9, vec![(0, 1)]).channel(), Some(9));
+        assert_eq!(Call::Windows(0, vec![]).channel(), Some(0));
+        assert_eq!(Call::Minute(9).channel(), None);
+        assert!(!Call::Windows(1, vec![]).is_wire() && !Call::Minute(0).is_wire());
         let charge = charge(0, 1, 1, &[], &[1]);
         assert!(charge.channel().is_none() && !charge.is_wire());
     }

@@ -28,6 +28,10 @@ pub trait Device {
         limits: &[u64],
         prices: &[u32],
     ) -> (u8, u64);
+    /// Change 6: sets the minute of the week.
+    fn minute(&mut self, minute: u16) -> u8;
+    /// Change 6: gives a channel its windows, each a start and an end.
+    fn windows(&mut self, channel: u8, windows: &[(u16, u16)]) -> u8;
     /// Output of a channel, which no line of a script asks for; FALSE where
     /// there is no such channel.
     fn output(&self, channel: u8) -> bool;
@@ -71,6 +75,14 @@ impl Device for ChannelBox {
         prices: &[u32],
     ) -> (u8, u64) {
         charge::charge(earlier, later, litres_per_pulse, limits, prices)
+    }
+
+    fn minute(&mut self, minute: u16) -> u8 {
+        ChannelBox::minute(self, minute)
+    }
+
+    fn windows(&mut self, channel: u8, windows: &[(u16, u16)]) -> u8 {
+        ChannelBox::windows(self, channel, windows)
     }
 
     fn output(&self, channel: u8) -> bool {

@@ -16,6 +16,8 @@ pub enum Reply {
     Lookup(u8, Real),
     /// Change 4: the number and the cents.
     Charge(u8, u64),
+    Minute(u8),
+    Windows(u8),
 }
 
 impl fmt::Display for Reply {
@@ -39,6 +41,8 @@ impl fmt::Display for Reply {
             Reply::Tick => write!(formatter, "tick 0"),
             Reply::Lookup(number, real) => write!(formatter, "lookup {number} {real:08x}"),
             Reply::Charge(number, cents) => write!(formatter, "charge {number} {cents}"),
+            Reply::Minute(number) => write!(formatter, "minute {number}"),
+            Reply::Windows(number) => write!(formatter, "windows {number}"),
         }
     }
 }

@@ -107,6 +107,11 @@ pub(super) fn small(word: &[u8]) -> Result<u8, Why> {
     Ok(decimal(word, u64::from(u8::MAX))? as u8)
 }
 
+/// Change 6: a minute, a start or an end.
+pub(super) fn minute_of(word: &[u8]) -> Result<u16, Why> {
+    Ok(decimal(word, u64::from(u16::MAX))? as u16)
+}
+
 /// A decimal number of 32 bits.
 pub(super) fn decimal_word(word: &[u8]) -> Result<u32, Why> {
     Ok(decimal(word, u64::from(u32::MAX))? as u32)

@@ -1,4 +1,5 @@
 mod errors;
+mod hours;
 mod looks;
 mod outputs;
 mod quarters;
@@ -6,6 +7,6 @@ mod service;
 
 use super::*;
 use crate::bench::{with_channel, with_watchdog, Bench};
-use crate::channel::{flag, Kept};
+use crate::channel::{flag, Config, Kept};
 
 const HALF_AMPERE: u32 = 0x3F00_0000;

@@ -5,10 +5,10 @@ use Rattle.play.proofs.calls.make.Statement.{statement}
 use Rattle.play.proofs.calls.make.Tie as tie
 
 abbrev Inv-loop : tie.InvT-loop
-Inv-loop c times written lent₀ answered₀ left₀ lent answered left = length lent ≡ length lent₀
+Inv-loop c times written windows lent₀ answered₀ left₀ lent answered left = length lent ≡ length lent₀
 
 abbrev μ-loop : tie.MeasureT-loop
-μ-loop c times written lent₀ answered₀ left₀ lent answered left = left
+μ-loop c times written windows lent₀ answered₀ left₀ lent answered left = left
 
 plain-requires : tie.Need-plain-requires Inv-loop μ-loop
 plain-requires c κs = tt

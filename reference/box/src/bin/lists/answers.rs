@@ -28,7 +28,9 @@ impl Compared<'_> {
             ("read", [number, length, _, _, buffer]) => (number, Some(length), Some(buffer), None),
             ("write", [number, length, _, _]) => (number, Some(length), None, None),
             ("store", [number, length, buffer]) => (number, Some(length), Some(buffer), None),
-            ("power" | "sample" | "tick", [number]) => (number, None, None, None),
+            ("power" | "sample" | "tick" | "minute" | "windows", [number]) => {
+                (number, None, None, None)
+            }
             ("lookup", [number, real]) => (number, None, None, Some(real)),
             _ => return None,
         };
@@ -68,6 +70,9 @@ pub fn in_words(line: &str) -> String {
         }
         Ok(Some(Call::Sample(channel, ..))) => {
             format!("the sample for channel {channel} ({line})")
+        }
+        Ok(Some(Call::Windows(channel, _))) => {
+            format!("the windows of channel {channel} ({line})")
         }
         Ok(Some(Call::Lookup(table, _))) => {
             format!("the lookup in table {table} ({line})")

@@ -73,7 +73,8 @@ impl<'a> List<'a> {
 }
 
 /// What was found the same, how often strangers differed, and in how many pairs
-/// c's OperatingTime went on with the four further ticks.
+/// c's OperatingTime went on with the four further ticks, and c was closed by
+/// its windows after them.
 #[derive(Default)]
 struct Counts {
     own: usize,
@@ -81,6 +82,7 @@ struct Counts {
     pairs_that_differ: usize,
     pairs_that_differ_at_end: usize,
     pairs_that_go_on: usize,
+    pairs_that_close: usize,
 }
 
 impl Played<'_> {
@@ -103,10 +105,15 @@ impl Played<'_> {
             let why = "four ticks never moved the channel's OperatingTime";
             return Err(format!("seed {}: nothing is shown: {why}", own.seed));
         }
+        if counts.pairs_that_close == 0 {
+            let why = "the channel's windows never closed it after the end";
+            return Err(format!("seed {}: nothing is shown: {why}", own.seed));
+        }
         Ok(format!(
             "{} pairs (seed {}): {calls} calls, {} own answers and {} end registers the same; \
              in {} pairs the strangers' own answers or registers differed, in {} the registers; \
-             in {} the channel's OperatingTime moved, by the same, in four ticks after the end",
+             in {} the channel's OperatingTime moved, by the same, in four ticks after the end; \
+             in {} its windows closed it, at the same ticks, after them",
             own.pairs.len(),
             own.seed,
             counts.own,
@@ -114,6 +121,7 @@ impl Played<'_> {
             counts.pairs_that_differ,
             counts.pairs_that_differ_at_end,
             counts.pairs_that_go_on,
+            counts.pairs_that_close,
         ))
     }
 
@@ -134,6 +142,9 @@ impl Played<'_> {
         for &lines in &pair.quarters {
             self.compare(lines, "left-over quarters", accepted)?;
         }
+        for &lines in &pair.hours {
+            self.compare(lines, "opening hours", accepted)?;
+        }
         counts.own += pair.own.len();
         counts.end += pair.end.len();
         let at_end = self.registers_differ(pair)?;
@@ -141,6 +152,7 @@ impl Played<'_> {
         counts.pairs_that_differ += usize::from(differ);
         counts.pairs_that_differ_at_end += usize::from(at_end);
         counts.pairs_that_go_on += usize::from(self.goes_on(pair)?);
+        counts.pairs_that_close += usize::from(self.closes(pair)?);
         Ok(())
     }
 
@@ -153,6 +165,21 @@ impl Played<'_> {
             Ok::<_, String>(answer.buffer.and_then(|buffer| buffer.get(..8)))
         };
         Ok(time(FIRST_READ)? != time(LAST_READ)?)
+    }
+
+    /// Whether a read of FlagReg, each after a tick with OutFlag made TRUE before
+    /// it, shows OutFlag FALSE.
+    fn closes(&self, pair: &Matched) -> Result<bool, String> {
+        let flag_reg = format!("read {:x} ", 0x10 * pair.channel);
+        for &(first, _) in &pair.hours {
+            let (call, answer) = self.first.at(first)?;
+            let digit = answer.buffer.and_then(|buffer| buffer.chars().next());
+            let out_flag = digit.and_then(|digit| digit.to_digit(16));
+            if call.starts_with(&flag_reg) && out_flag.is_some_and(|digit| digit < 8) {
+                return Ok(true);
+            }
+        }
+        Ok(false)
     }
 
     /// Asks something of the answers to one call of both lists.

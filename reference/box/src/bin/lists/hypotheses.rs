@@ -130,6 +130,11 @@ mod tests {
             "tick, sample 4 0 40400000, read 10 00",
         );
         assert_eq!(strangers, Ok((3..=16).collect()));
+        let strangers = asked(
+            "windows 3 7 8, minute 7, windows 2 7 8, windows 17, tick",
+            "minute 7, windows 16, windows 4 7 10080, windows 2 7 8, windows 17, tick",
+        );
+        assert_eq!(strangers, Ok((3..=16).collect()));
         for (first, second) in [
             ("sample 3 1 00000000", "sample 17 1 00000000"),
             ("tick", "tick, tick"),
@@ -154,6 +159,16 @@ mod tests {
             ("lookup 1 00000000", ""),
             ("lookup 1 00000000", "lookup 1 00000001"),
             ("lookup 3 00000000", "lookup 4 00000000"),
+            ("minute 7", ""),
+            ("minute 7", "minute 8"),
+            ("minute 10080", "minute 10081"),
+            ("windows 1 7 8", ""),
+            ("windows 1 7 8", "windows 1 7 9"),
+            ("windows 2 7 8", "windows 2"),
+            ("windows 2 7 10080", "windows 3 7 10080"),
+            ("windows 0", ""),
+            ("windows 17 7 8", "windows 17"),
+            ("windows 0", "windows 3"),
         ] {
             let why = asked(first, second).expect_err(first);
             assert!(why.contains("not equal"), "{first}: {why}");
@@ -179,8 +194,12 @@ mod tests {
         let lookup = "lookup 3 00000000, tick";
         assert!(asked(lookup, &format!("sample 3 1 00000000, {lookup}")).is_ok());
         assert!(asked(lookup, &format!("read 30 00, {lookup}")).is_err());
+        let hours = "minute 7, windows 1 7 8, tick";
+        assert!(asked(hours, &format!("windows 3 7 8, {hours}")).is_ok());
+        assert!(asked(hours, &format!("read 30 00, {hours}")).is_err());
         for (first, second) in [
             ("read 30 00, tick", "tick"),
+            ("read 30 00, tick", "windows 3 7 8, tick"),
             ("read 30 00, tick", "sample 3 1 00000000, tick"),
             ("read 30 00, tick, tick", "tick, read 30 00, tick"),
             ("tick 2, tick", "tick 2, read 30 00, tick"),

@@ -1,6 +1,6 @@
 //! The file `own`, read back. Its form is written at the top of `record.rs`.
 
-use crate::runs::SHOWING;
+use crate::{hours, runs};
 
 /// Lines of the two files that are matched, counted from 1.
 pub type Match = (usize, usize);
@@ -17,6 +17,8 @@ pub struct Matched {
     pub other: Vec<Match>,
     /// Change 2: c's own calls and ticks that show its left-over quarters.
     pub quarters: Vec<Match>,
+    /// Change 6: c's own calls, ticks and minutes that show its windows.
+    pub hours: Vec<Match>,
     /// Strangers' calls in the first list, and in the second.
     pub first: Vec<usize>,
     pub second: Vec<usize>,
@@ -91,6 +93,7 @@ impl Matched {
             "kept" => &mut self.kept,
             "other" => &mut self.other,
             "quarters" => &mut self.quarters,
+            "hours" => &mut self.hours,
             _ => return None,
         };
         matches.extend((0..count).map(|offset| (first + offset, second + offset)));
@@ -112,7 +115,8 @@ impl Matched {
             && self.power.len() == 1
             && self.end.len() == REGISTERS
             && self.kept.len() == 1
-            && self.quarters.len() == SHOWING
+            && self.quarters.len() == runs::SHOWING
+            && self.hours.len() >= hours::SHOWING
     }
 }
 

@@ -1,6 +1,6 @@
 //! A pair of lists, drawn at random so that "Two lists" speaks of it.
 
-use crate::{runs, second, source};
+use crate::{hours, runs, second, source};
 use reference_box::generator::actions::{self as act, Action};
 use reference_box::generator::random::Random;
 use reference_box::generator::script::Script;
@@ -22,7 +22,8 @@ const FLAVOURS: &[Flavour] = &[
 
 /// What the first list does, with weights: no power-up and no storing, which
 /// "stand outside lists". Change 1: "Data calls are never strangers' calls", so
-/// those of the data channel, and lookups, stand in both lists.
+/// those of the data channel, and lookups, stand in both lists. Change 6:
+/// "setting the minute is a call of everyone", and stands in both, too.
 const ACTIONS: &[(u64, Action)] = &[
     (9, act::tick),
     (8, act::few_ticks),
@@ -85,6 +86,10 @@ const ACTIONS: &[(u64, Action)] = &[
     (2, act::set_any_in_flag),
     (1, act::write_operating_time),
     (1, act::refused_operating_time),
+    (1, act::give_windows),
+    (1, act::set_minute),
+    (1, act::refused_hours),
+    (1, act::short_hours),
 ];
 
 /// Two lists for one image and one digital channel c.
@@ -101,6 +106,8 @@ pub struct Pair {
     pub survey: Vec<Call>,
     /// Change 2: further ticks that show c's left-over quarters.
     pub quarters: Vec<Call>,
+    /// Change 6: further ticks that show c's windows and the minute.
+    pub hours: Vec<Call>,
 }
 
 impl Pair {
@@ -124,6 +131,7 @@ impl Pair {
             ending: reads(&mut script, &[channel]),
             survey: reads(&mut script, &strangers),
             quarters: runs::show_quarters(&mut script, channel),
+            hours: hours::show_hours(&mut script, channel),
             strangers,
         }
     }
@@ -163,20 +171,26 @@ fn image(script: &mut Script, channel: u8, others: &[u8]) -> Vec<u8> {
 }
 
 /// The first list: stretches of calls for c, for others, or for all of them,
-/// and pump runs.
+/// pump runs and opening hours.
 fn first_list(script: &mut Script, channel: u8, others: &[u8], long: bool) -> Vec<Call> {
     let all = [&[channel, channel], others].concat();
-    let length = script.random.within(10, 150) as usize;
+    let length = script.random.within(10, 190) as usize;
     while script.length() < length {
         script.flavour = script.random.pick(FLAVOURS);
-        match script.random.below(13) {
+        match script.random.below(16) {
             0..=1 => watch(script, channel, others),
             2..=3 => stretch(script, &[channel]),
             4..=5 => stretch(script, others),
             6 => name_others(script, channel, others),
             7..=8 => runs::pump_runs(script, channel, others),
+            9..=10 => hours::opening_hours(script, channel, others),
+            11 if script.random.chance(1, 3) => hours::minute_moves(script, channel, others),
             _ => stretch(script, &all),
         }
+    }
+    if script.random.chance(1, 2) {
+        hours::leave_hours(script, channel);
+        stretch(script, others);
     }
     if long {
         go_through_save(script, channel, others);

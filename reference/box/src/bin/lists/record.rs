@@ -16,6 +16,7 @@
 //! | `kept FIRST SECOND COUNT`  | the store, for c's entry of the image      |
 //! | `other FIRST SECOND COUNT` | reads of each register of the strangers    |
 //! | `quarters FIRST SECOND COUNT` | further ticks that show c's quarters    |
+//! | `hours FIRST SECOND COUNT` | further ticks that show c's windows        |
 
 use crate::hypotheses;
 use crate::pair::Pair;
@@ -92,7 +93,8 @@ impl<W: Write> Record<W> {
         self.both("end", &pair.ending)?;
         self.both("kept", &[Call::Store(LENGTH)])?;
         self.both("other", &pair.survey)?;
-        self.both("quarters", &pair.quarters)
+        self.both("quarters", &pair.quarters)?;
+        self.both("hours", &pair.hours)
     }
 
     /// Calls that stand in both files.
@@ -129,7 +131,8 @@ impl<W: Write> Record<W> {
 /// The hypotheses, asked of the whole lists: the reads at the end are theirs,
 /// and so are the ticks after them.
 fn hold(pair: &Pair) -> Result<(), String> {
-    let whole = |list: &[Call]| [list, &pair.ending, &pair.survey, &pair.quarters].concat();
+    let after = [&pair.ending, &pair.survey, &pair.quarters, &pair.hours].map(Vec::as_slice);
+    let whole = |list: &[Call]| [list, &after.concat()].concat();
     let (first, second) = (whole(&pair.first), whole(&pair.second));
     let strangers = hypotheses::ask(&pair.image, pair.channel, &first, &second)?;
     if strangers != pair.strangers {

@@ -34,6 +34,8 @@ const ACTIONS: &[(u64, Action)] = &[
     (2, act::set_any_in_flag),
     (1, act::write_operating_time),
     (1, act::refused_operating_time),
+    (6, act::give_windows),
+    (1, act::refused_hours),
     (1, act::write_end_time),
     (1, act::write_end_counter),
     (1, act::write_end_current),
@@ -43,7 +45,8 @@ const ACTIONS: &[(u64, Action)] = &[
 ];
 
 /// Calls of which one may stand alone between ticks: wire calls that need no
-/// other, samples, a lookup (which is no wire call), and none.
+/// other, samples, a lookup, windows and a minute (which are no wire calls), and
+/// none.
 pub const LONE_CALLS: &[(u64, Action)] = &[
     (2, act::read_state),
     (1, act::write_flag_reg),
@@ -53,6 +56,8 @@ pub const LONE_CALLS: &[(u64, Action)] = &[
     (1, act::sample_current),
     (1, act::refused_sample),
     (1, act::lookup),
+    (1, act::give_windows),
+    (1, act::set_minute),
     (3, |_| {}),
 ];
 
@@ -149,16 +154,42 @@ impl Source {
             Call::Read(old, lent) => Call::Read(swno(old), lent),
             Call::Write(old, value) => Call::Write(swno(old), value),
             Call::Sample(_, level, real) => Call::Sample(channel, level, real),
+            Call::Windows(_, windows) => Call::Windows(channel, windows),
             call => call,
         }
     }
 
-    /// Change 3: a sample with another level, another current or both, which is
-    /// now and then refused; else the same call.
+    /// A sample or windows with something else in them, now and then refused;
+    /// else the same call.
     fn changed(&mut self, call: &Call) -> Call {
-        let Call::Sample(channel, level, amperes) = *call else {
-            return call.clone();
-        };
+        match call {
+            Call::Sample(channel, level, amperes) => {
+                self.changed_sample(*channel, *level, *amperes)
+            }
+            Call::Windows(channel, windows) => self.changed_windows(*channel, windows),
+            _ => call.clone(),
+        }
+    }
+
+    /// Change 6: no windows, too many, a late end, or one window more or in
+    /// place of another. A line has at most sixteen.
+    fn changed_windows(&mut self, channel: u8, windows: &[(u16, u16)]) -> Call {
+        let mut windows = windows.to_vec();
+        windows.truncate(15);
+        let [start, end] = [(); 2].map(|()| values::minute(self.random()));
+        match self.random().below(6) {
+            0 => windows.clear(),
+            1 => windows.resize(9, (start, end)),
+            2 => windows.push((start, values::refused_minute(self.random()))),
+            3 => windows = vec![(start, end)],
+            4 if windows.len() > 1 => drop(windows.pop()),
+            _ => windows.push((start, end)),
+        }
+        Call::Windows(channel, windows)
+    }
+
+    /// Change 3: another level, another current or both.
+    fn changed_sample(&mut self, channel: u8, level: bool, amperes: u32) -> Call {
         let other = match self.random().below(6) {
             0 => values::refused_current(self.random()),
             _ => values::sample_current(self.random()),
@@ -210,6 +241,30 @@ mod tests {
         assert!(seen[1..].iter().all(|&count| count > 50), "{seen:?}");
         let tick = Call::Tick(2);
         assert_eq!(source.changed(&tick), tick);
+    }
+
+    /// Change 6: windows are others, and their channel stays.
+    #[test]
+    fn windows_are_changed_and_moved_whole() {
+        let mut source = Source::new(1, &[4]);
+        let windows = vec![(600, 720), (10_079, 1)];
+        let call = Call::Windows(3, windows.clone());
+        assert_eq!(source.moved(&call), Call::Windows(4, windows.clone()));
+        let mut device = reference_box::ChannelBox::default();
+        let mut seen = std::collections::BTreeSet::new();
+        for _ in 0..100 {
+            let changed = source.changed(&call);
+            assert!(changed != call && changed.channel() == Some(3));
+            seen.insert(changed.make(&mut device).to_string());
+        }
+        let numbers = ["windows 0", "windows 18", "windows 19"];
+        assert_eq!(seen.into_iter().collect::<Vec<_>>(), numbers);
+        let sixteen = Call::Windows(3, vec![(600, 720); 16]);
+        for _ in 0..100 {
+            let changed = source.changed(&sixteen);
+            let line = changed.to_string();
+            assert_eq!(Call::parse(line.as_bytes()), Ok(Some(changed)), "{line}");
+        }
     }
 
     #[test]

@@ -1,3 +1,4 @@
+mod hours;
 mod leaks;
 mod leaky;
 mod samples;
@@ -139,7 +140,7 @@ fn a_planted_number_or_length_is_found() {
 
 #[test]
 fn a_planted_kept_value_is_found_in_the_channels_entry_alone() {
-    let mut files = Files::made(3);
+    let mut files = Files::made(10);
     let line = files.second_lines(3, |pair| &pair.kept)[0];
     let channel = Own::read(&files.own).expect("well formed").pairs[2].channel;
     let entry = |channel: usize| 2 * (10 + 44 * (channel - 1));
@@ -151,7 +152,7 @@ fn a_planted_kept_value_is_found_in_the_channels_entry_alone() {
 
 #[test]
 fn the_two_error_bits_and_strangers_registers_are_free() {
-    let mut files = Files::made(3);
+    let mut files = Files::made(10);
     let own = files.second_lines(1, |pair| &pair.end)[0];
     files.plant(own, 3, |bit| other_digit(bit, 0));
     files.plant(own, 4, |bit| other_digit(bit, 0));
@@ -195,7 +196,8 @@ fn a_planted_quarter_is_found() {
 #[test]
 fn in_most_pairs_the_further_ticks_move_operating_time() {
     let done = Files::made(100).check().expect("all the same");
-    let (_, end) = done.rsplit_once("; in ").expect("the last part");
+    let (before, _) = done.rsplit_once("; in ").expect("the last part");
+    let (_, end) = before.rsplit_once("; in ").expect("the part before");
     let (count, rest) = end.split_once(' ').expect("a number");
     assert_eq!(
         rest,

@@ -1,3 +1,5 @@
+mod hours;
+
 use super::*;
 use crate::answers::Compared;
 use crate::second::is_for;

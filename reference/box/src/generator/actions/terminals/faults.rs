@@ -161,6 +161,14 @@ impl Device for Faulty {
             .charge(earlier, later, litres_per_pulse, limits, prices)
     }
 
+    fn minute(&mut self, minute: u16) -> u8 {
+        self.inner.minute(minute)
+    }
+
+    fn windows(&mut self, channel: u8, windows: &[(u16, u16)]) -> u8 {
+        self.inner.windows(channel, windows)
+    }
+
     fn output(&self, channel: u8) -> bool {
         Device::output(&self.inner, channel)
     }

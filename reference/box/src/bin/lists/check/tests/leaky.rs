@@ -37,6 +37,23 @@ pub enum Leak {
     Late,
     /// A sample presets the watchdog as a wire call does.
     Wire,
+    /// The next channel gets a channel's windows too.
+    Windows,
+    /// All channels are given them.
+    WindowsForAll,
+    /// Refused windows empty those of all channels.
+    RefusedWindows,
+    /// Accepted windows, for any channel, start the 1920 ticks of the minute
+    /// anew.
+    MinuteTicks,
+    /// Refused windows, for any channel, unset the minute.
+    MinuteUnset,
+    /// Windows preset the watchdog as a wire call does.
+    WindowsWire,
+    /// A channel that closes takes the next one with it.
+    Closing,
+    /// No leak: the box has no opening hours at all.
+    NoHours,
 }
 
 pub struct Leaky {
@@ -72,6 +89,43 @@ impl Leaky {
                 channel.count_operating();
                 channel.in_flag = false;
             }
+        }
+    }
+
+    fn leaky_windows(&mut self, channel: u8, windows: &[(u16, u16)]) -> u8 {
+        let number = self.inner.windows(channel, windows);
+        if self.leak == Leak::NoHours && number == 0 {
+            self.inner.windows(channel, &[]);
+        }
+        let digital = (1..=16).contains(&channel);
+        match (self.leak, number) {
+            (Leak::Windows, 0) => {
+                self.inner.windows(channel % 16 + 1, windows);
+            }
+            (Leak::WindowsForAll, 0) => {
+                for channel in 1..=16 {
+                    self.inner.windows(channel, windows);
+                }
+            }
+            (Leak::RefusedWindows, 18 | 19) => {
+                for channel in 1..=16 {
+                    self.inner.windows(channel, &[]);
+                }
+            }
+            (Leak::MinuteTicks, 0) => self.inner.clock.ticks = 0,
+            (Leak::MinuteUnset, 18 | 19) => self.inner.clock.minute = None,
+            (Leak::WindowsWire, _) if digital => self.inner.wd_timer = self.inner.wd_preset,
+            _ => {}
+        }
+        number
+    }
+
+    /// Switches off each channel that comes after a closed one.
+    fn close_the_next(&mut self) {
+        let minute = self.inner.clock.now();
+        let closed = self.inner.channels.map(|channel| channel.is_closed(minute));
+        for (index, channel) in self.inner.channels.iter_mut().enumerate() {
+            channel.out_flag &= !closed[(index + 15) % 16];
         }
     }
 
@@ -165,6 +219,9 @@ impl Device for Leaky {
             self.run_with_the_next();
         }
         self.inner.tick();
+        if self.leak == Leak::Closing {
+            self.close_the_next();
+        }
         if self.leak == Leak::Shared {
             let quarters = self.inner.channels[0].quarters;
             for channel in &mut self.inner.channels {
@@ -187,6 +244,14 @@ impl Device for Leaky {
     ) -> (u8, u64) {
         self.inner
             .charge(earlier, later, litres_per_pulse, limits, prices)
+    }
+
+    fn minute(&mut self, minute: u16) -> u8 {
+        self.inner.minute(minute)
+    }
+
+    fn windows(&mut self, channel: u8, windows: &[(u16, u16)]) -> u8 {
+        self.leaky_windows(channel, windows)
     }
 
     fn output(&self, channel: u8) -> bool {
