@@ -7,3 +7,4 @@ pub mod Image
 pub mod Levels
 pub mod Runs
 pub mod Samples
+pub mod Hours

@@ -10,9 +10,10 @@ use lib.Ieee.{binary32, ofInt}
 use Rattle.counts.specs.Counts.{timer}
 use Rattle.model.specs.declared.Module.{Module}
 use Rattle.model.specs.State.{config, channelAt, inFlag}
+use Rattle.model.specs.Hours.{window}
 use Rattle.model.specs.Settings.{output}
 use Rattle.model.specs.Image.{Entry, Setup, entrySize, entryFrom, dataSize, keptFrom, encode}
-use Rattle.model.specs.Calls.{Request, read, write, sample, tick, run, powerUp, powerUpAnswer}
+use Rattle.model.specs.Calls.{Request, read, write, sample, minute, windows, tick, run, powerUp, powerUpAnswer}
 use Rattle.model.specs.TwoLists.{allNamed, struck, marks}
 
 -- settings of a channel: an output with this Ref_A and a MaxCurrent of 1, all else zero
@@ -44,21 +45,23 @@ setup =
 unfoldable pub image : List ℕ
 image = encode setup
 
--- WriteEnable, then channel 1 on, and its feedback input rises
+-- WriteEnable, then channel 1 on, and its feedback input rises; the minute of the week, and windows of channel 1 that are open then
 abbrev pub opening : List Request
-opening = write 0x0D (1 ∷ []) ∷ write 0x10 (0x80 ∷ []) ∷ sample 2 true (ofInt binary32 (pos 0)) ∷ []
+opening =
+    write 0x0D (1 ∷ []) ∷ write 0x10 (0x80 ∷ []) ∷ sample 2 true (ofInt binary32 (pos 0)) ∷ minute 300 ∷ windows 1 (window 0 600 ∷ []) ∷ []
 
 -- ChConfig of channel 1 anew, with Ref_B 4, and channel 1 on again, with its FlagReg read back
 abbrev pub middle : List Request
 middle = write 0x19 (0 ∷ 0x10 ∷ 2 ∷ 4 ∷ []) ∷ write 0x10 (0x80 ∷ []) ∷ read 0x10 (0xA5 ∷ 0xA5 ∷ []) ∷ []
 
--- calls for channel 3: two that are accepted, a write and a sample, and a read whose buffer is too short
+-- calls for channel 3: three that are accepted, a write, a sample and windows that are open, and a read whose buffer is too short
 abbrev pub strangersFirst : List Request
-strangersFirst = write 0x30 (0x80 ∷ []) ∷ sample 3 true (ofInt binary32 (pos 1)) ∷ read 0x3F [] ∷ []
+strangersFirst = write 0x30 (0x80 ∷ []) ∷ sample 3 true (ofInt binary32 (pos 1)) ∷ windows 3 (window 200 400 ∷ []) ∷ read 0x3F [] ∷ []
 
--- other calls for it: a write of two bytes where one is due, and a sample that trips
+-- other calls for it: a write of two bytes where one is due, windows that are not open, nine windows, and a write that the next tick undoes
 abbrev pub strangersSecond : List Request
-strangersSecond = write 0x30 (0 ∷ 0 ∷ []) ∷ sample 3 true (ofInt binary32 (pos 3)) ∷ []
+strangersSecond =
+    write 0x30 (0 ∷ 0 ∷ []) ∷ windows 3 (window 400 200 ∷ []) ∷ windows 3 (replicate 9 0) ∷ sample 3 true (ofInt binary32 (pos 1)) ∷ write 0x30 (0x80 ∷ []) ∷ []
 
 unfoldable pub first : List Request
 first = opening ++ (tick ∷ (strangersFirst ++ (middle ++ (tick ∷ tick ∷ []))))

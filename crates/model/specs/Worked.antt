@@ -9,6 +9,7 @@ pub mod Image
 pub mod Levels
 pub mod Runs
 pub mod Samples
+pub mod Hours
 use mathlib.Core.Path.{_≡_}
 use mathlib.Core.Bool.{Bool, true, false}
 use mathlib.Core.List.{List, [], _∷_, _++_, map}
@@ -80,7 +81,7 @@ refusedWrite why n bs b = record { call = write n bs; answer = answering why 0 [
 abbrev pub refusedRead : ℕ → ℕ → ℕ → Bits → List Case
 refusedRead why n lent b = record { call = read n (replicate lent 0xA5); answer = answering why 0 (replicate lent 0xA5) b } ∷ []
 
--- a sample or a tick that is done, and a sample that is refused
+-- a local call or a tick that is done, and a local call that is refused
 abbrev pub takes : Request → List Case
 takes x = record { call = x; answer = answering 0 0 [] calm } ∷ []
 
