@@ -1,4 +1,4 @@
-// The words of the clock's two calls: minute N, and windows CH [START END]..
+// The words of the two calls of opening hours: minute N, and windows CH [START END]..
 ghost use Prim.Native.Nat.{_≤_};
 use crate::calls;
 use crate::calls::Line;
