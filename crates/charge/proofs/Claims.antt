@@ -19,7 +19,7 @@ use Rattle.integers.proofs.Claims.{wrapped-claim}
 use Rattle.counts.specs.Counts.{counterStep}
 use Rattle.model.specs.declared.Refusal.{Refusal}
 use Rattle.model.specs.declared.Refusal.the-variants.{Beyond, Unlisted, NotWritable, WrongLength, BufferTooShort, NotEnabled, NotAllowed}
-use Rattle.model.specs.declared.Refusal.the-variants.{NoChannel, NotFinite, ImageLength, ImageCounts, ImageSum, ImageValues, NoRoom, NoTable}
+use Rattle.model.specs.declared.Refusal.the-variants.{NoChannel, NotFinite, ImageLength, ImageCounts, ImageSum, ImageValues, NoRoom, NoTable, NotMinute, TooManyWindows}
 use Rattle.model.specs.Questions.{refusalNumber}
 use Rattle.model.proofs.Laws.Tests.{both, by-test}
 use Rattle.charge.specs.declared.Charged.{Charged}
@@ -149,22 +149,24 @@ risen (suc n) z =
     let i = risen n z in
     wrapped-claim .congruent w32 (afterRises n z +ℤ pos 1) ∙ modulo-add (afterRises n z) (pos 1) ∙ omega (arith, i)
 
-own : (r : Refusal) → refusalNumber r < 16
-own Beyond = omega arith
-own Unlisted = omega arith
-own NotWritable = omega arith
-own WrongLength = omega arith
-own BufferTooShort = omega arith
-own NotEnabled = omega arith
-own NotAllowed = omega arith
-own NoChannel = omega arith
-own NotFinite = omega arith
-own ImageLength = omega arith
-own ImageCounts = omega arith
-own ImageSum = omega arith
-own ImageValues = omega arith
-own NoRoom = omega arith
-own NoTable = omega arith
+own : (r : Refusal) → (refusalNumber r ≡ 16 → ⊥) × (refusalNumber r ≡ 17 → ⊥)
+own Beyond = (λ e. omega (arith, e), λ e. omega (arith, e))
+own Unlisted = (λ e. omega (arith, e), λ e. omega (arith, e))
+own NotWritable = (λ e. omega (arith, e), λ e. omega (arith, e))
+own WrongLength = (λ e. omega (arith, e), λ e. omega (arith, e))
+own BufferTooShort = (λ e. omega (arith, e), λ e. omega (arith, e))
+own NotEnabled = (λ e. omega (arith, e), λ e. omega (arith, e))
+own NotAllowed = (λ e. omega (arith, e), λ e. omega (arith, e))
+own NoChannel = (λ e. omega (arith, e), λ e. omega (arith, e))
+own NotFinite = (λ e. omega (arith, e), λ e. omega (arith, e))
+own ImageLength = (λ e. omega (arith, e), λ e. omega (arith, e))
+own ImageCounts = (λ e. omega (arith, e), λ e. omega (arith, e))
+own ImageSum = (λ e. omega (arith, e), λ e. omega (arith, e))
+own ImageValues = (λ e. omega (arith, e), λ e. omega (arith, e))
+own NoRoom = (λ e. omega (arith, e), λ e. omega (arith, e))
+own NoTable = (λ e. omega (arith, e), λ e. omega (arith, e))
+own NotMinute = (λ e. omega (arith, e), λ e. omega (arith, e))
+own TooManyWindows = (λ e. omega (arith, e), λ e. omega (arith, e))
 
 litres-asked : (k : ℕ) → 1 ≤ k → k ≤ 10000 → question16 k ≡ true
 litres-asked k a b = rw (le-leb 1 k a, le-leb k 10000 b) refl

@@ -61,7 +61,7 @@ pub record Charges : Type 0 where
   pub seventeen : (e l : ℤ) (k : ℕ) (t : Tariff) → 1 ≤ k → k ≤ 10000 → question17 t ≡ false → charged e l k t ≡ record { number = 17; cents = 0 }
   pub done : (e l : ℤ) (k : ℕ) (t : Tariff) → 1 ≤ k → k ≤ 10000 → question17 t ≡ true → charged e l k t .number ≡ 0
   -- the box itself gives neither of the two
-  pub own-numbers : (r : Refusal) → refusalNumber r < 16
+  pub own-numbers : (r : Refusal) → (refusalNumber r ≡ 16 → ⊥) × (refusalNumber r ≡ 17 → ⊥)
   -- no sum leaves 64 bits, nor does what is added to round it
   pub held : (e l : ℤ) (k : ℕ) (t : Tariff) → charged e l k t .number ≡ 0 → hundredths (litres e l k) t + 50 < 2 ^ 64
   -- the litres of the blocks are all litres
