@@ -27,7 +27,7 @@ fn with_minute(s: Shared, minute: u16) -> Shared
 pub fn set_minute(s: Shared, minute: u16) -> MinuteSet
     ensures { λ r. ⌜ MinuteBy minute s r ⌝ }
 {
-    let reply = questions::minute_reply(minute);
+    let reply = questions::opening::minute_reply(minute);
     match reply {
         Reply::Done(_) => MinuteSet {
             after: with_minute(s, minute),
@@ -53,7 +53,7 @@ fn with_windows(ch: Channel, windows: &[u32]) -> Channel
 pub fn set_windows(ch: Channel, channel: u8, windows: &[u32]) -> Taken
     ensures { λ r. ⌜ WindowsBy channel (now (windows .entry)) ch r ⌝ }
 {
-    let reply = questions::windows_reply(channel, windows);
+    let reply = questions::opening::windows_reply(channel, windows);
     match reply {
         Reply::Done(_) => Taken {
             after: with_windows(ch, windows),

@@ -1,13 +1,11 @@
-// The questions of wire calls, samples, lookups and opening hours, in order: each answer is the
-// refusal of the first question whose answer is no, or what is done.
+// The questions of wire calls, samples and lookups, and in `opening` those of opening hours, in order:
+// each answer is the refusal of the first question whose answer is no, or what is done.
 ghost use mathlib.Core.Path.{_≡_};
-ghost use mathlib.Core.Bool.{_&&_};
-ghost use Rattle.model.specs.Hours.{windowOf};
 ghost use Rattle.model.specs.Settings.{isDigital};
 ghost use Rattle.model.specs.Questions.{question1, question2, question3, question4, question6, readReply, writeReply, sampleReply, lookUpReply};
-ghost use Rattle.model.specs.Questions.{question18, areMinutes, minuteReply, windowsReply};
 ghost use Rattle.registers.specs.Places.{placed};
 
+pub mod opening;
 mod values;
 
 use model::Refusal;
@@ -101,7 +99,7 @@ pub fn write_reply(enable: bool, swno: u16, p: Place, bytes: &[u8]) -> Reply
 }
 
 // 8. Channel 1 to 16?
-fn is_digital(k: u8) -> bool
+pub(crate) fn is_digital(k: u8) -> bool
     ensures { λ b. ⌜ b ≡ isDigital k ⌝ }
 {
     (1 <= k) & (k <= 16)
@@ -132,62 +130,6 @@ pub fn look_up_reply(k: u8, x: f32) -> Reply
     }
     if !reals::is_finite(x) {
         return Reply::Refused(Refusal::NotAllowed);
-    }
-    Reply::Done(0)
-}
-
-// 18. A minute of the week?
-fn is_minute(n: u16) -> bool
-    ensures { λ b. ⌜ b ≡ question18 n ⌝ }
-{
-    n <= 10079
-}
-
-// 18 of the minute that is set.
-pub fn minute_reply(n: u16) -> Reply
-    ensures { λ r. ⌜ r ≡ minuteReply n ⌝ }
-{
-    if is_minute(n) {
-        return Reply::Done(0);
-    }
-    Reply::Refused(Refusal::NotMinute)
-}
-
-// 18 of a window's start and end.
-fn in_week(n: u32) -> bool
-    ensures { λ b. ⌜ b ≡ question18 (windowOf n .start) && question18 (windowOf n .end) ⌝ }
-{
-    let w = hours::window_of(n);
-    is_minute(w.start) & is_minute(w.end)
-}
-
-// 18 of every start and end, from the last window to the first.
-fn are_minutes(windows: &[u32]) -> bool
-    ensures { λ b. ⌜ b ≡ areMinutes (now (windows .entry)) ⌝ }
-{
-    let mut all = true;
-    let mut k = windows.len();
-    while 0 < k {
-        k -= 1;
-        let n = windows[k];
-        let one = in_week(n);
-        all = one & all;
-    }
-    all
-}
-
-// 8 of the channel, 19 of how many windows there are, then 18 of each.
-pub fn windows_reply(k: u8, windows: &[u32]) -> Reply
-    ensures { λ r. ⌜ r ≡ windowsReply k (now (windows .entry)) ⌝ }
-{
-    if !is_digital(k) {
-        return Reply::Refused(Refusal::NoChannel);
-    }
-    if 8 < windows.len() {
-        return Reply::Refused(Refusal::TooManyWindows);
-    }
-    if !are_minutes(windows) {
-        return Reply::Refused(Refusal::NotMinute);
     }
     Reply::Done(0)
 }

@@ -1,9 +1,9 @@
--- `minute_reply` meets its contract. Assumes nothing.
+-- `opening::minute_reply` meets its contract. Assumes nothing.
 use borrow.Author.Needs.{needs}
 use mathlib.Core.Path.{sym, _∙_}
 use Rattle.model.specs.Questions.{minuteReply}
-use Rattle.questions.proofs.minute_reply.Statement.{statement}
-use Rattle.questions.proofs.minute_reply.Tie as tie
+use Rattle.questions.proofs.opening.minute_reply.Statement.{statement}
+use Rattle.questions.proofs.opening.minute_reply.Tie as tie
 
 is-minute-requires : tie.Need-is-minute-requires
 is-minute-requires c κs = search needs

@@ -1,7 +1,7 @@
--- `in_week` meets its contract. Assumes nothing.
+-- `opening::in_week` meets its contract. Assumes nothing.
 use borrow.Author.Needs.{needs}
-use Rattle.questions.proofs.in_week.Statement.{statement}
-use Rattle.questions.proofs.in_week.Tie as tie
+use Rattle.questions.proofs.opening.in_week.Statement.{statement}
+use Rattle.questions.proofs.opening.in_week.Tie as tie
 
 window-of-requires : tie.Need-window-of-requires
 window-of-requires c κs = search needs

@@ -1,4 +1,4 @@
--- `are_minutes` meets its contract: the windows asked from the last to the first. Assumes nothing.
+-- `opening::are_minutes` meets its contract: the windows asked from the last to the first. Assumes nothing.
 use mathlib.Core.Path.{_≡_, refl}
 use mathlib.Core.Bool.{_&&_}
 use mathlib.Core.List.{List, [], _∷_}
@@ -9,8 +9,8 @@ use lib.ListN.{length, drop, getD, drop-of-length-le}
 use borrow.Author.Needs.{needs}
 use Rattle.model.specs.Hours.{windowOf}
 use Rattle.model.specs.Questions.{question18, areMinutes}
-use Rattle.questions.proofs.are_minutes.Statement.{statement}
-use Rattle.questions.proofs.are_minutes.Tie as tie
+use Rattle.questions.proofs.opening.are_minutes.Statement.{statement}
+use Rattle.questions.proofs.opening.are_minutes.Tie as tie
 
 minutes-next : (k : ℕ) (ns : List ℕ) → k < length ns
     → (question18 (windowOf (getD ns k 0) .start) && question18 (windowOf (getD ns k 0) .end)) && areMinutes (drop (suc k) ns) ≡ areMinutes (drop k ns)

@@ -1,10 +1,10 @@
--- `windows_reply` meets its contract. Assumes nothing.
+-- `opening::windows_reply` meets its contract. Assumes nothing.
 use borrow.Author.Needs.{needs}
 use borrow.Author.Tests.{not-true, not-false, le-leb, lt-leb}
 use mathlib.Core.Path.{sym, _∙_}
 use Rattle.model.specs.Questions.{windowsReply}
-use Rattle.questions.proofs.windows_reply.Statement.{statement}
-use Rattle.questions.proofs.windows_reply.Tie as tie
+use Rattle.questions.proofs.opening.windows_reply.Statement.{statement}
+use Rattle.questions.proofs.opening.windows_reply.Tie as tie
 
 is-digital-requires : tie.Need-is-digital-requires
 is-digital-requires c κs = search needs
