@@ -230,8 +230,8 @@ shut-twice false ch = refl
 
 -- what a channel is kept as, where it is known whether it is closed
 kept-as : (s : Shared) (ranOut b : Bool) (ch : Channel) → closed (s .clock) (ch .timetable) ≡ b
-    → Tick.keptClosed s (Tick.shutDown ranOut ch) ≡ Tick.shutDown b (Tick.shutDown ranOut ch)
-unfolding Tick.keptClosed
+    → Tick.offWhileClosed s (Tick.shutDown ranOut ch) ≡ Tick.shutDown b (Tick.shutDown ranOut ch)
+unfolding Tick.offWhileClosed
 kept-as s ranOut b ch e = ap (λ (x : Bool). Tick.shutDown x (Tick.shutDown ranOut ch)) (ap (closed (s .clock)) (shut-timetable ranOut ch) ∙ e)
 
 -- the rest of steps 1 to 4, which does not look at the clock
@@ -308,12 +308,12 @@ struck-windows : (c : ℕ) (ns : List ℕ) (k : ℕ) (ws : List ℕ) (xs : List 
 unfolding struck
 struck-windows c ns k ws xs e = rw e
 
-kept-windows : (c : ℕ) (ns : List ℕ) (k : ℕ) (ws : List ℕ) (xs : List Request) → stranger c ns k ≡ false →
+standing-windows : (c : ℕ) (ns : List ℕ) (k : ℕ) (ws : List ℕ) (xs : List Request) → stranger c ns k ≡ false →
     struck c ns (windows k ws ∷ xs) ≡ windows k ws ∷ struck c ns xs
 unfolding struck
-kept-windows c ns k ws xs e = rw e
+standing-windows c ns k ws xs e = rw e
 
 pub hours-in-lists : HoursInLists
 unfolding struck marks
 hours-in-lists =
-    record { struck-windows = struck-windows; kept-windows = kept-windows; kept-minute = λ c ns n xs. refl; unmarked = λ w n k ws xs. refl }
+    record { struck-windows = struck-windows; standing-windows = standing-windows; standing-minute = λ c ns n xs. refl; unmarked = λ w n k ws xs. refl }

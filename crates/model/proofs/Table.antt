@@ -10,7 +10,7 @@ use Rattle.model.specs.Hours.{clockTicked, closed}
 use Rattle.model.specs.Settings.{functionOf, output}
 use Rattle.model.specs.Channel.{changed, simulate, takeOut, takeControl, clearActs, flagRegWritten}
 use Rattle.model.specs.Registers.{place}
-use Rattle.model.specs.Tick.{saveDue, tickShared, runsOut, tickService, shutDown, keptClosed, timersRun, oneShot, dutyCycle, overloaded, guarded, driven, lookDue}
+use Rattle.model.specs.Tick.{saveDue, tickShared, runsOut, tickService, shutDown, offWhileClosed, timersRun, oneShot, dutyCycle, overloaded, guarded, driven, lookDue}
 use Rattle.model.specs.Tick.{looked, operated, judged, saved, reviewed, ticked}
 use Rattle.model.specs.Restored.{restored, poweredUp}
 use Rattle.model.specs.Writes.{digitalWritten, written}
@@ -22,7 +22,7 @@ use Rattle.model.specs.Table.{ProvedTable}
 pub proved-table : ProvedTable
 unfolding ofBits toBits ofInt le bytesOf number realBytes realOf digitalBytes bytesRead afterRead readReply wrapped larger signedNumber freeRunTick
     watchdogTick outTimerTick feedbackTick isNegative isPositive realFrom whole countOf from below functionOf output changed simulate takeOut takeControl
-    clearActs flagRegWritten place saveDue tickShared runsOut tickService shutDown keptClosed clockTicked closed timersRun oneShot dutyCycle overloaded guarded driven lookDue looked operated judged
+    clearActs flagRegWritten place saveDue tickShared runsOut tickService shutDown offWhileClosed clockTicked closed timersRun oneShot dutyCycle overloaded guarded driven lookDue looked operated judged
     saved reviewed ticked restored poweredUp digitalWritten written writeReply cleared watchdogPreset step run
 proved-table =
     record {

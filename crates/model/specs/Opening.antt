@@ -138,9 +138,9 @@ Closes =
 pub record HoursInLists : Type 0 where
   -- windows for a stranger are struck, those for any other number stay
   pub struck-windows : (c : ℕ) (ns : List ℕ) (k : ℕ) (ws : List ℕ) (xs : List Request) → stranger c ns k ≡ true → struck c ns (windows k ws ∷ xs) ≡ struck c ns xs
-  pub kept-windows : (c : ℕ) (ns : List ℕ) (k : ℕ) (ws : List ℕ) (xs : List Request) → stranger c ns k ≡ false →
+  pub standing-windows : (c : ℕ) (ns : List ℕ) (k : ℕ) (ws : List ℕ) (xs : List Request) → stranger c ns k ≡ false →
       struck c ns (windows k ws ∷ xs) ≡ windows k ws ∷ struck c ns xs
   -- the minute stands in every list
-  pub kept-minute : (c : ℕ) (ns : List ℕ) (n : ℕ) (xs : List Request) → struck c ns (minute n ∷ xs) ≡ minute n ∷ struck c ns xs
+  pub standing-minute : (c : ℕ) (ns : List ℕ) (n : ℕ) (xs : List Request) → struck c ns (minute n ∷ xs) ≡ minute n ∷ struck c ns xs
   -- neither is a wire call
   pub unmarked : (w : Bool) (n k : ℕ) (ws : List ℕ) (xs : List Request) → marks w (minute n ∷ windows k ws ∷ xs) ≡ marks w xs

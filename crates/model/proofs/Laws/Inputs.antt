@@ -141,9 +141,9 @@ module _ (ch : Channel) where
   unfolding Tick.shutDown
   in-shutDown out = either Kept out refl refl
 
-  in-keptClosed : (s : Shared) → Kept (Tick.keptClosed s ch)
-  unfolding Tick.keptClosed
-  in-keptClosed s = in-shutDown (closed (s .clock) (ch .timetable))
+  in-offWhileClosed : (s : Shared) → Kept (Tick.offWhileClosed s ch)
+  unfolding Tick.offWhileClosed
+  in-offWhileClosed s = in-shutDown (closed (s .clock) (ch .timetable))
 
   in-timersRun : Kept (Tick.timersRun ch)
   unfolding Tick.timersRun
@@ -216,11 +216,11 @@ in-guarded s ch = either (Kept ch) (Tick.overloaded s ch) (in-changed _ _ ∙ in
 pub in-driven : (s : Shared) (out : Bool) (ch : Channel) → inputs (Tick.driven s out ch) ≡ inputs ch
 unfolding Tick.driven
 in-driven s out ch =
-    let off = Tick.keptClosed s (Tick.shutDown out ch) in
+    let off = Tick.offWhileClosed s (Tick.shutDown out ch) in
     let run = Tick.timersRun off in
     let driven = Tick.special (functions run) run in
     in-guarded s (Rules.changed (outFlag ch) driven) ∙ in-changed driven (outFlag ch) ∙ in-special (functions run) run ∙ in-timersRun off
-    ∙ in-keptClosed (Tick.shutDown out ch) s ∙ in-shutDown ch out
+    ∙ in-offWhileClosed (Tick.shutDown out ch) s ∙ in-shutDown ch out
 
 in-looked : (s : Shared) (levels : List Bool) (ch : Channel) → inputs (Tick.looked s levels ch) ≡ inputs ch
 unfolding Tick.looked

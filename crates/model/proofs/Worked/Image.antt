@@ -32,7 +32,7 @@ unfolding played Calls.cleared Calls.watchdogPreset Calls.step Calls.run Calls.p
     Image.configAllowed Image.moduleConfigAllowed Image.entryAllowed Image.entriesAllowed Image.valuesAllowed Restored.restored Restored.poweredUp
     Questions.readReply Questions.writeReply Questions.sampleReply Questions.lookUpReply Questions.powerUpReply Questions.storeReply Reads.flagReg
     Reads.serviceBytes Reads.digitalBytes Reads.commonBytes Reads.pairsBytes Reads.dataBytes Reads.bytesRead Reads.afterRead Registers.place Settings.functionOf
-    Settings.referenceOf Settings.inA Settings.inB Settings.output Tick.saveDue Tick.tickShared Tick.runsOut Tick.tickService Tick.shutDown Tick.keptClosed Hours.clockTicked Hours.within Hours.closed Tick.timersRun
+    Settings.referenceOf Settings.inA Settings.inB Settings.output Tick.saveDue Tick.tickShared Tick.runsOut Tick.tickService Tick.shutDown Tick.offWhileClosed Hours.clockTicked Hours.within Hours.closed Tick.timersRun
     Tick.oneShot Tick.dutyCycle Tick.timerOutput Tick.overloaded Tick.guarded Tick.driven Tick.lookDue Tick.feedbackWrong Tick.looked Tick.operated Tick.found
     Tick.judged Tick.saved Tick.reviewed Tick.dataTimersRun Tick.dataTicked Tick.ticked Writes.sharedWritten Writes.errorsWritten Writes.everyWritten
     Writes.digitalWritten Writes.commonWritten Writes.dataReset Writes.dataWritten Writes.written Integers.modulo Integers.signedBits Integers.wrapped
