@@ -15,13 +15,15 @@
  * - its memory has PD3120_MODULE_SIZE bytes, all zero or as a call left them. Nothing else writes
  *   into it; it may be copied by assignment. Static memory is zero, and a local one is set by
  *   `pd3120_module box = {{0}};`. Zero memory is a valid box, though not the one that a refused
- *   power-up gives: that one has His bit 7 of the service channel set;
- * - a buffer has as many bytes as its length says, all initialised;
+ *   power-up gives: that one has His bit 7 of the service channel set, and its minute of the week is
+ *   unset, where zero memory has the minute 0;
+ * - a buffer has as many bytes as its length says, all initialised; windows are a buffer of as many
+ *   numbers as their count says, aligned as a uint32_t (checked);
  * - a buffer is not null (checked; there it may be null where its length is 0);
  * - a buffer and the module have no byte in common (checked);
  * - no other thread uses the module or the buffer during the call;
- * - the stack has room for PD3120_STACK bytes; for a read, a write, a sample, a lookup or a tick,
- *   PD3120_CALL_STACK are enough.
+ * - the stack has room for PD3120_STACK bytes; for a read, a write, a sample, a lookup, a tick, the
+ *   minute or windows, PD3120_CALL_STACK are enough.
  */
 #ifndef PD3120_H
 #define PD3120_H
@@ -37,12 +39,14 @@
 extern "C" {
 #endif
 
-#define PD3120_MODULE_SIZE 1496     /* bytes */
+#define PD3120_MODULE_SIZE 2012     /* bytes */
 #define PD3120_MODULE_ALIGN 4       /* bytes */
 #define PD3120_IMAGE_SIZE 886       /* bytes of a setup image, as it is stored */
 #define PD3120_OLDER_IMAGE_SIZE 717 /* bytes of one without the data channel; it still powers up */
 #define PD3120_PAIRS 10             /* of a level table */
 #define PD3120_TABLE_SIZE 80        /* bytes of a level table: of LookUp1 ($13C), of LookUp2 ($13D) */
+#define PD3120_WINDOWS 8            /* the most windows of a channel */
+#define PD3120_WEEK 10080           /* minutes of a week, numbered from 0 */
 
 /*
  * Bytes of stack that no call goes beyond, counted from its return address down; the caller's own
@@ -50,8 +54,8 @@ extern "C" {
  * tests/c/stack.c holds every kind of call to them. What an interrupt puts on the same stack comes
  * on top, and so does a dynamic linker that looks for memcpy or memset at their first call.
  */
-#define PD3120_STACK 4096
-#define PD3120_CALL_STACK 800 /* of a read, a write, a sample, a lookup or a tick */
+#define PD3120_STACK 5120
+#define PD3120_CALL_STACK 1024 /* of a read, a write, a sample, a lookup, a tick, the minute or windows */
 
 /* A box. Only the library looks inside. */
 typedef struct pd3120_module {
@@ -84,9 +88,12 @@ enum pd3120_numbers {
     PD3120_NO_ROOM = 14, /* Buffer at least 886? */
     /* lookups: this one first, then 7 */
     PD3120_NO_TABLE = 15, /* Table 1 or 2? */
+    /* opening hours: the minute 18; windows 8, then 19, then 18 */
+    PD3120_NOT_MINUTE = 18,       /* Minute, start or end at most 10079? */
+    PD3120_TOO_MANY_WINDOWS = 19, /* At most eight windows? */
     /* checked calls only, before the box is asked anything */
     PD3120_BAD_MODULE = 254, /* Module not null, and aligned? */
-    PD3120_BAD_BUFFER = 255  /* Buffer not null, and apart from the module? */
+    PD3120_BAD_BUFFER = 255  /* Buffer not null, windows aligned, and apart from the module? */
 };
 
 /*
@@ -135,8 +142,10 @@ static inline const char *pd3120_reason(uint32_t code)
     case PD3120_IMAGE_VALUES: return "The setup image has a value that is not allowed.";
     case PD3120_NO_ROOM: return "The buffer is shorter than 886 bytes.";
     case PD3120_NO_TABLE: return "The table is not 1 or 2.";
+    case PD3120_NOT_MINUTE: return "A minute of the week is above 10079.";
+    case PD3120_TOO_MANY_WINDOWS: return "There are more than eight windows.";
     case PD3120_BAD_MODULE: return "The module is null or not aligned.";
-    case PD3120_BAD_BUFFER: return "The buffer is null or overlaps the module.";
+    case PD3120_BAD_BUFFER: return "The buffer is null, not aligned, or overlaps the module.";
     default: return "The number is none of the library's.";
     }
 }
@@ -203,6 +212,27 @@ static inline void pd3120_get_table(pd3120_pair pairs[PD3120_PAIRS], const uint8
     }
 }
 
+/* ---- Opening hours ---- */
+
+/*
+ * The minute of the week of a time of day; day 0 is the week's first, as the installer takes it. From
+ * PD3120_WEEK on it is PD3120_WEEK, which is refused by 18: a window up to the week's end ends at 0.
+ */
+static inline uint16_t pd3120_minute(unsigned day, unsigned hour, unsigned minute)
+{
+    uint64_t of_week = (uint64_t)day * 1440 + (uint64_t)hour * 60 + minute;
+    return (uint16_t)(of_week < PD3120_WEEK ? of_week : PD3120_WEEK);
+}
+
+/*
+ * A window as pd3120_set_windows takes it, from two minutes of the week. The start is in it, the end is
+ * not. One whose end is before its start runs over the week's end; one with equal ends never opens.
+ */
+static inline uint32_t pd3120_window(uint16_t start, uint16_t end)
+{
+    return (uint32_t)start << 16 | end;
+}
+
 /* ---- The proved functions ---- */
 
 /*
@@ -254,6 +284,24 @@ uint32_t pd3120_sample(pd3120_module *module, uint8_t channel, bool level, float
  * Changes nothing. It is no wire call: the watchdog goes on.
  */
 uint64_t pd3120_look_up(const pd3120_module *module, uint8_t table, float x);
+
+/*
+ * Sets the minute of the week, 0 to 10079. Each 1920th tick from then moves it as the tick begins, from
+ * 10079 to 0. Power-up and reset leave it unset, and no channel is closed then.
+ * Answers number 0 or 18.
+ * Changes the minute, and starts the 1920 ticks anew; nothing where it is refused. It is no wire call:
+ * the watchdog goes on.
+ */
+uint32_t pd3120_set_minute(pd3120_module *module, uint16_t minute);
+
+/*
+ * Gives a channel its windows, whole: up to PD3120_WINDOWS numbers, as pd3120_window makes them. While
+ * the minute is set, a channel with windows has OutFlag and Control cleared at each tick outside all
+ * of them; opening turns nothing on. Count 0 takes the windows away, and so do power-up and reset.
+ * Answers number 0, 8, 19 or 18, asked in this order.
+ * Changes the channel's windows; nothing where it is refused. It is no wire call: the watchdog goes on.
+ */
+uint32_t pd3120_set_windows(pd3120_module *module, uint8_t channel, const uint32_t *windows, size_t count);
 
 /* 1/32 s passes. Changes the module. */
 void pd3120_tick(pd3120_module *module);
@@ -324,6 +372,33 @@ static inline uint32_t pd3120_checked_sample(pd3120_module *module, uint8_t chan
 {
     uint32_t refusal = pd3120_check(module, NULL, 0);
     return refusal != PD3120_DONE ? refusal : pd3120_sample(module, channel, level, amperes);
+}
+
+static inline uint32_t pd3120_checked_set_minute(pd3120_module *module, uint16_t minute)
+{
+    uint32_t refusal = pd3120_check(module, NULL, 0);
+    return refusal != PD3120_DONE ? refusal : pd3120_set_minute(module, minute);
+}
+
+/* 0, or why the pointers are refused. More numbers than a size_t can count the bytes of are in no memory. */
+static inline uint32_t pd3120_check_windows(const void *module, const uint32_t *windows, size_t count)
+{
+    uint32_t refusal = pd3120_check(module, NULL, 0);
+    if (refusal != PD3120_DONE)
+        return refusal;
+    if ((uintptr_t)windows % sizeof *windows != 0 || count > SIZE_MAX / sizeof *windows)
+        return PD3120_BAD_BUFFER;
+    return pd3120_check(module, windows, count * sizeof *windows);
+}
+
+static inline uint32_t pd3120_checked_set_windows(pd3120_module *module, uint8_t channel, const uint32_t *windows,
+                                                  size_t count)
+{
+    static const uint32_t none = 0; /* never used, in the place of no windows */
+    uint32_t refusal = pd3120_check_windows(module, windows, count);
+    if (refusal != PD3120_DONE)
+        return refusal;
+    return pd3120_set_windows(module, channel, windows == NULL ? &none : windows, count);
 }
 
 /* Answers number 0 where the tick has run. */

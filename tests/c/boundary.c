@@ -1,10 +1,11 @@
 /*
  * Every function of the header, every number that it can answer, and the caller's memory around
  * each call: the module and the buffers stand between bytes that no call may touch. Here stand the
- * caller's memory and main; the parts stand in boundary_calls.c, boundary_data.c and
- * boundary_checked.c.
+ * caller's memory and main; the parts stand in boundary_calls.c, boundary_data.c, boundary_hours.c
+ * and boundary_checked.c.
  */
 #include "boundary.h"
+#include "layout.h"
 
 #include <stdio.h>
 #include <string.h>
@@ -97,6 +98,34 @@ bool alike(const pd3120_module *one, const pd3120_module *other)
     return true;
 }
 
+/* Whether a byte of a module lies between its fields, where nothing is known. */
+static bool padding(size_t at)
+{
+    const size_t service = at - offsetof(struct module, service), channels = at - offsetof(struct module, channels);
+
+    if (at < offsetof(struct module, service))
+        return at > offsetof(struct shared, write_enable) && at < offsetof(struct shared, save_ticks);
+    if (at < offsetof(struct module, channels))
+        return service >= offsetof(struct service, his) + sizeof(struct service_bits);
+    if (at >= offsetof(struct module, data_channel))
+        return false;
+    const size_t byte = channels % sizeof(struct channel);
+    if (byte < offsetof(struct channel, counter))
+        return byte >= offsetof(struct channel, errors) + sizeof(struct errors);
+    return byte == offsetof(struct channel, timetable) + 1;
+}
+
+/* Whether two boxes have the same bytes in every field. */
+bool identical(const pd3120_module *one, const pd3120_module *other)
+{
+    const uint8_t *a = (const uint8_t *)one, *b = (const uint8_t *)other;
+
+    for (size_t at = 0; at < PD3120_MODULE_SIZE; at++)
+        if (!padding(at) && a[at] != b[at])
+            return false;
+    return true;
+}
+
 /* ---- setup images ---- */
 
 void put32(uint8_t *at, uint32_t value)
@@ -183,6 +212,12 @@ int main(void)
     table_bytes();
     data_registers();
     lookups();
+    minutes_and_windows();
+    refused_hours();
+    opening_hours();
+    closed_control();
+    unset_hours();
+    checked_hours();
     exact_blocks();
     checked_calls();
 

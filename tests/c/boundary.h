@@ -28,6 +28,7 @@ uint32_t wire_read(uint16_t swno, size_t length);
 bool reads(uint16_t swno, const uint8_t *expected, size_t length);
 uint32_t wire_write(uint16_t swno, const uint8_t *bytes, size_t length);
 bool alike(const pd3120_module *one, const pd3120_module *other);
+bool identical(const pd3120_module *one, const pd3120_module *other);
 
 /* ---- setup images ---- */
 
@@ -38,7 +39,7 @@ void put32(uint8_t *at, uint32_t value);
 void put_sum(uint8_t *bytes, size_t length);
 uint32_t power_up(const uint8_t *bytes, size_t length);
 
-/* ---- the parts: boundary_calls.c, boundary_data.c, then boundary_checked.c ---- */
+/* ---- the parts: boundary_calls.c, boundary_data.c, boundary_hours.c, then boundary_checked.c ---- */
 
 void answers(void);
 void images(void);
@@ -49,6 +50,12 @@ void older_images(void);
 void table_bytes(void);
 void data_registers(void);
 void lookups(void);
+void minutes_and_windows(void);
+void refused_hours(void);
+void opening_hours(void);
+void closed_control(void);
+void unset_hours(void);
+void checked_hours(void);
 void exact_blocks(void);
 void checked_calls(void);
 

@@ -22,7 +22,8 @@ void answers(void)
     CHECK(pd3120_look_up_real(looked_up) == 1.5f);
     CHECK(pd3120_look_up_number(0x7FC00000u) == 0 && isnan(pd3120_look_up_real(0x7FC00000u)));
 
-    static const uint8_t numbers[] = {0, 1, 2, 3, 4, 5, 6, 7, 8, 9, 10, 11, 12, 13, 14, 15, 254, 255, 16};
+    static const uint8_t numbers[] = {0,  1,  2,  3,  4,  5,  6,  7,   8,   9, 10,
+                                      11, 12, 13, 14, 15, 18, 19, 254, 255, 16};
     for (size_t i = 0; i < sizeof numbers; i++)
         for (size_t j = 0; j < i; j++)
             CHECK(strcmp(pd3120_reason(numbers[i]), pd3120_reason(numbers[j])) != 0);

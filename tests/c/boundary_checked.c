@@ -32,6 +32,16 @@ void exact_blocks(void)
     pd3120_tick(module);
     CHECK(!pd3120_output(module, 16));
     CHECK(pd3120_look_up_number(pd3120_look_up(module, 2, 1.0f)) == PD3120_DONE);
+    CHECK(pd3120_set_minute(module, 1) == PD3120_DONE);
+    for (size_t count = 0; count <= PD3120_WINDOWS + 1; count++) {
+        uint32_t *windows = calloc(count + (count == 0), sizeof *windows);
+        if (windows == NULL)
+            exit(2);
+        uint32_t number = count <= PD3120_WINDOWS ? PD3120_DONE : PD3120_TOO_MANY_WINDOWS;
+        CHECK(pd3120_checked_set_windows(module, 16, windows, count) == number);
+        free(windows);
+        pd3120_tick(module);
+    }
     CHECK(pd3120_number(pd3120_store(module, stored, PD3120_IMAGE_SIZE)) == PD3120_DONE);
     CHECK(pd3120_power_up(module, stored, PD3120_IMAGE_SIZE) == PD3120_DONE);
     uint8_t *short_setup = malloc(PD3120_OLDER_IMAGE_SIZE);

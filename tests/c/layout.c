@@ -25,14 +25,19 @@ AT(channel, user, 49);
 AT(channel, reals, 53);
 AT(channel, maintenance, 61);
 AT(channel, quarters, 65);
-AT(channel, kept, 68);
-_Static_assert(sizeof(struct channel) == 80, "channel");
+AT(channel, timetable, 66);
+AT(channel, kept, 100);
+_Static_assert(sizeof(struct channel) == 112, "channel");
+AT(timetable, count, 0);
+AT(timetable, windows, 2);
+_Static_assert(sizeof(struct timetable) == 34, "timetable");
 AT(shared, free_run_timer, 0);
 AT(shared, module_config, 4);
 AT(shared, wd_preset, 8);
 AT(shared, write_enable, 12);
 AT(shared, save_ticks, 16);
-_Static_assert(sizeof(struct shared) == 20, "shared");
+AT(shared, clock, 20);
+_Static_assert(sizeof(struct shared) == 24, "shared");
 AT(service, wd_timer, 0);
 AT(service, act, 4);
 AT(service, his, 7);
@@ -44,9 +49,9 @@ AT(data_channel, table1, 24);
 AT(data_channel, table2, 104);
 _Static_assert(sizeof(struct data_channel) == 184, "data_channel");
 AT(module, shared, 0);
-AT(module, service, 20);
-AT(module, channels, 32);
-AT(module, data_channel, 1312);
+AT(module, service, 24);
+AT(module, channels, 36);
+AT(module, data_channel, 1828);
 _Static_assert(sizeof(struct module) == PD3120_MODULE_SIZE, "module");
 _Static_assert(_Alignof(struct module) == PD3120_MODULE_ALIGN, "module");
 _Static_assert(sizeof(pd3120_module) == PD3120_MODULE_SIZE, "pd3120_module");
@@ -93,6 +98,7 @@ static void shared_and_service(void)
     pd3120_power_up(&box, yes, sizeof yes);
     look();
     check(seen.service.his.internal_reset, "service His bit 7");
+    check(seen.shared.clock.minute >= PD3120_WEEK, "the minute, unset");
     check(!seen.service.his.external_reset && !seen.service.his.wd_run_out, "service His bits 6 and 3");
     put(0x03, reset, 1);
     check(!seen.service.his.internal_reset && seen.service.his.external_reset, "service His after a reset");
@@ -246,6 +252,27 @@ static void errors(void)
     check(first->errors.his == 0x7F, "all seven errors");
 }
 
+/* The minute, and the windows of channel 16, all eight and then one. */
+static void opening_hours(void)
+{
+    const struct timetable *last = &seen.channels[15].timetable;
+    uint32_t windows[PD3120_WINDOWS];
+
+    for (uint16_t i = 0; i < PD3120_WINDOWS; i++)
+        windows[i] = pd3120_window(i * 1000, 10079 - i);
+    check(pd3120_set_minute(&box, 10079) == PD3120_DONE, "the minute is not set");
+    check(pd3120_set_windows(&box, 16, windows, PD3120_WINDOWS) == PD3120_DONE, "windows are not set");
+    pd3120_tick(&box);
+    look();
+    check(seen.shared.clock.minute == 10079 && seen.shared.clock.ticks == 1, "the minute and its ticks");
+    check(seen.channels[14].timetable.count == 0 && last->count == PD3120_WINDOWS, "the count of windows");
+    for (int i = 0; i < PD3120_WINDOWS; i++)
+        check(last->windows[i].start == i * 1000 && last->windows[i].end == 10079 - i, "a window");
+    check(pd3120_set_windows(&box, 16, windows + 7, 1) == PD3120_DONE, "a window is not set");
+    look();
+    check(last->count == 1 && last->windows[0].start == 7000 && last->windows[0].end == 10072, "one window");
+}
+
 int main(void)
 {
     printf("layout: a module has %zu bytes and is aligned to %zu\n", sizeof(pd3120_module), _Alignof(pd3120_module));
@@ -254,6 +281,7 @@ int main(void)
     data_channel();
     flags();
     errors();
+    opening_hours();
     if (failures != 0)
         return 1;
     printf("layout: all values are where the structs say\n");

@@ -40,6 +40,15 @@ struct kept {
     uint32_t operating; /* OperatingCount */
 };
 
+struct window {
+    uint16_t start, end;
+};
+
+struct timetable {
+    uint8_t count;
+    struct window windows[8];
+};
+
 struct channel {
     struct config config;
     int32_t out_timer, fb_timer, out_preset; /* TimerCount */
@@ -51,7 +60,12 @@ struct channel {
     struct flags flags;
     uint8_t user[4], reals[8], maintenance[4];
     uint8_t quarters;
+    struct timetable timetable;
     struct kept kept;
+};
+
+struct clock {
+    uint16_t minute, ticks;
 };
 
 struct shared {
@@ -60,6 +74,7 @@ struct shared {
     int32_t wd_preset; /* TimerCount */
     bool write_enable;
     uint32_t save_ticks;
+    struct clock clock;
 };
 
 struct service_bits {

@@ -1,9 +1,9 @@
 /*
  * The stack of a call. Each call runs on a stack of its own, which was filled with a pattern before;
  * afterwards the lowest word that differs tells how deep the call went. No call may go deeper than
- * PD3120_STACK, no read, write, sample, lookup or tick deeper than PD3120_CALL_STACK, no charge deeper
- * than PD3120_CHARGE_STACK, and the deepest of each kind is printed. Here stand the stack and main;
- * the calls stand in stack_calls.c and stack_charge.c.
+ * PD3120_STACK, no read, write, sample, lookup, tick, minute or windows deeper than PD3120_CALL_STACK,
+ * no charge deeper than PD3120_CHARGE_STACK, and the deepest of each kind is printed. Here stand the
+ * stack and main; the calls stand in stack_calls.c and stack_charge.c.
  *
  * For a build with -O2 and no sanitizer, which would use the stack as well.
  */
@@ -26,8 +26,8 @@ void check(bool holds, const char *what)
 
 /* ---- calls ---- */
 
-static const char *const names[KINDS] = {"power_up", "store", "read",   "write", "sample",
-                                         "look_up",  "tick",  "output", "charge"};
+static const char *const names[KINDS] = {"power_up", "store",   "read", "write",  "sample", "look_up",
+                                         "minute",   "windows", "tick", "output", "charge"};
 
 pd3120_module box;
 uint8_t buffer[PD3120_IMAGE_SIZE + 1];
@@ -68,6 +68,8 @@ static void make(void)
     case WRITE: answer = pd3120_write(&box, call.swno, buffer, call.length); break;
     case SAMPLE: answer = pd3120_sample(&box, call.channel, call.level, call.amperes); break;
     case LOOK_UP: answer = pd3120_look_up(&box, call.table, call.x); break;
+    case MINUTE: answer = pd3120_set_minute(&box, call.minute); break;
+    case WINDOWS: answer = pd3120_set_windows(&box, call.channel, call.windows, call.length); break;
     case TICK: pd3120_tick(&box); break;
     case OUTPUT: answer = pd3120_output(&box, call.channel); break;
     case CHARGE:
@@ -139,6 +141,8 @@ static size_t bound_of(enum kind kind)
     case WRITE:
     case SAMPLE:
     case LOOK_UP:
+    case MINUTE:
+    case WINDOWS:
     case TICK:
         return PD3120_CALL_STACK;
     case CHARGE:

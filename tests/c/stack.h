@@ -11,7 +11,22 @@ void check(bool holds, const char *what);
 
 /* ---- calls ---- */
 
-enum kind { POWER_UP, STORE, READ, WRITE, SAMPLE, LOOK_UP, TICK, OUTPUT, CHARGE, KINDS, NOTHING, KNOWN };
+enum kind {
+    POWER_UP,
+    STORE,
+    READ,
+    WRITE,
+    SAMPLE,
+    LOOK_UP,
+    MINUTE,
+    WINDOWS,
+    TICK,
+    OUTPUT,
+    CHARGE,
+    KINDS,
+    NOTHING,
+    KNOWN
+};
 
 struct call {
     enum kind kind;
@@ -21,7 +36,9 @@ struct call {
     float amperes;
     uint8_t table;
     float x;
-    size_t length; /* of the buffer */
+    uint16_t minute;
+    const uint32_t *windows;
+    size_t length; /* of the buffer, or of the windows */
     int32_t later; /* the earlier reading is 0 */
     uint32_t litres_per_pulse;
     pd3120_tariff tariff;

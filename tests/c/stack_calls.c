@@ -153,6 +153,43 @@ static void saving_tick(void)
     check(seen.data_channel.kept.a == 1.0f, "the saving tick does not save RealA");
 }
 
+/* Windows for every channel number, and minutes; done, and refused by each number. */
+static void minutes_and_windows(void)
+{
+    static const uint32_t windows[PD3120_WINDOWS + 2] = {0, 10079u << 16, 1, 360u << 16 | 1200, 10079};
+    static const uint32_t late[PD3120_WINDOWS] = {[PD3120_WINDOWS - 1] = 10080};
+    static const uint16_t minutes[] = {0, 1, 10078, 10079, 10080, 65535};
+    const pd3120_module before = box;
+
+    for (size_t i = 0; i < sizeof minutes / sizeof minutes[0]; i++)
+        measure((struct call){.kind = MINUTE, .minute = minutes[i]});
+    for (unsigned channel = 0; channel <= UINT8_MAX; channel++)
+        for (size_t count = 0; count <= PD3120_WINDOWS + 2; count++) {
+            measure((struct call){.kind = WINDOWS, .channel = (uint8_t)channel, .windows = windows, .length = count});
+            if (count <= PD3120_WINDOWS)
+                measure((struct call){.kind = WINDOWS, .channel = (uint8_t)channel, .windows = late, .length = count});
+        }
+    box = before;
+}
+
+/* Ticks with as many windows on every channel, open from the minute 0 on and then closed. */
+static void ticks_with_windows(size_t count)
+{
+    const pd3120_module before = box;
+    uint32_t windows[PD3120_WINDOWS] = {0};
+
+    windows[count - 1] = pd3120_window(10079, 1);
+    for (uint8_t channel = 1; channel <= 16; channel++)
+        check(pd3120_set_windows(&box, channel, windows, count) == PD3120_DONE, "windows are not set");
+    check(pd3120_set_minute(&box, 0) == PD3120_DONE, "the minute is not set");
+    for (int tick = 0; tick < 1910; tick++)
+        pd3120_tick(&box);
+    for (int tick = 0; tick < 20; tick++)
+        measure((struct call){.kind = TICK});
+    check(!pd3120_output(&box, 1), "channel 1 is not closed");
+    box = before;
+}
+
 static void ticks(void)
 {
     const pd3120_module before = box;
@@ -161,6 +198,8 @@ static void ticks(void)
         measure((struct call){.kind = TICK});
     saving_tick();
     box = before;
+    for (size_t count = 1; count <= PD3120_WINDOWS; count++)
+        ticks_with_windows(count);
 }
 
 /* A power-up from the bytes of the buffer, which must get this number. */
@@ -232,6 +271,7 @@ void every_call(void)
     wire_calls();
     samples_and_outputs();
     lookups();
+    minutes_and_windows();
     ticks();
     images();
     box = before;
