@@ -17,8 +17,8 @@ pub mod charge;
 
 use std::mem::MaybeUninit;
 
-/// A module has 1496 bytes, in words of the alignment that it asks for.
-const WORDS: usize = 374;
+/// A module has 2012 bytes, in words of the alignment that it asks for.
+const WORDS: usize = 503;
 
 /// The memory of a module. It begins as zeros, which are a value of every field
 /// of a module, and after that only the library writes it, so that it always
@@ -34,6 +34,8 @@ extern "C" {
     fn pd3120_read(m: *mut Module, swno: u16, buffer: *mut u8, length: usize) -> u32;
     fn pd3120_write(m: *mut Module, swno: u16, bytes: *const u8, length: usize) -> u32;
     fn pd3120_sample(m: *mut Module, channel: u8, level: bool, amperes: f32) -> u32;
+    fn pd3120_set_minute(m: *mut Module, of_week: u16) -> u32;
+    fn pd3120_set_windows(m: *mut Module, channel: u8, windows: *const u32, count: usize) -> u32;
     fn pd3120_look_up(m: *const Module, table: u8, x: f32) -> u64;
     fn pd3120_tick(m: *mut Module);
     fn pd3120_output(m: *const Module, channel: u8) -> bool;
@@ -81,6 +83,21 @@ impl Module {
         // SAFETY: `self` is a valid module that nobody else can reach during the
         // call; any channel number and any Real are values that the function takes.
         unsafe { pd3120_sample(self, channel, level, amperes) }
+    }
+
+    #[inline]
+    pub fn set_minute(&mut self, minute: u16) -> u32 {
+        // SAFETY: `self` is a valid module that nobody else can reach during the
+        // call; any number is a value that the function takes.
+        unsafe { pd3120_set_minute(self, minute) }
+    }
+
+    /// Each window is its start times 65536 plus its end.
+    #[inline]
+    pub fn set_windows(&mut self, channel: u8, windows: &[u32]) -> u32 {
+        // SAFETY: `self` is a valid module that nobody else can reach during the
+        // call; the windows are a slice that is only read, of any numbers.
+        unsafe { pd3120_set_windows(self, channel, windows.as_ptr(), windows.len()) }
     }
 
     #[inline]

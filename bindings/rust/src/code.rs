@@ -12,7 +12,7 @@ fn refusal(code: u32) -> Option<Refusal> {
         return None;
     }
     let refusal = Refusal::numbered(number as u8);
-    Some(refusal.expect("the library is proved to answer 0 to 15"))
+    Some(refusal.expect("the library is proved to answer the papers' numbers"))
 }
 
 #[inline]
@@ -87,7 +87,10 @@ mod tests {
         };
         assert_eq!(wire(0x0200_0007), Err(refused));
         assert_eq!(plain(886 << 8), Ok(886));
-        assert_eq!(plain(14).map_err(|error| error.number()), Err(14));
+        for number in [14, 18, 19] {
+            let refused = plain(u32::from(number)).map_err(|error| error.number());
+            assert_eq!(refused, Err(number));
+        }
         let nan = looked_up(0x7FC0_0000).map(f32::to_bits);
         assert_eq!(nan, Ok(0x7FC0_0000));
         let refused = looked_up(15 << 32).map_err(|error| error.number());

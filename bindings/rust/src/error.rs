@@ -23,7 +23,7 @@ pub enum Refusal {
     /// A write: the register does not allow the value. A lookup: X is no finite
     /// Real.
     NotAllowed = 7,
-    /// A sample: the channel is not from 1 to 16.
+    /// A sample, or windows: the channel is not from 1 to 16.
     NoChannel = 8,
     /// A sample: the current is no finite Real. This is asked after the channel.
     NotFinite = 9,
@@ -39,11 +39,16 @@ pub enum Refusal {
     NoRoom = 14,
     /// A lookup: the table is not 1 or 2. This is asked before its X.
     NoTable = 15,
+    /// The minute of the week, or a start or end of windows, is above 10079.
+    NotMinute = 18,
+    /// Windows: there are more than eight. This is asked after the channel, and
+    /// before the starts and ends.
+    TooManyWindows = 19,
 }
 
 impl Refusal {
     /// Every refusal, in the order of the numbers.
-    pub const ALL: [Refusal; 15] = [
+    pub const ALL: [Refusal; 17] = [
         Refusal::Beyond,
         Refusal::Unlisted,
         Refusal::NotWritable,
@@ -59,16 +64,23 @@ impl Refusal {
         Refusal::ImageValues,
         Refusal::NoRoom,
         Refusal::NoTable,
+        Refusal::NotMinute,
+        Refusal::TooManyWindows,
     ];
 
-    /// The refusal of a number, which is from 1 to 15.
+    /// The refusal of a number, which is from 1 to 15, 18 or 19. 16 and 17 are
+    /// those of a [charge](crate::ChargeRefusal).
     #[inline]
     pub fn numbered(number: u8) -> Option<Refusal> {
-        let index = usize::from(number).checked_sub(1)?;
-        Refusal::ALL.get(index).copied()
+        let index = match number {
+            1..=15 => number - 1,
+            18..=19 => number - 3,
+            _ => return None,
+        };
+        Refusal::ALL.get(usize::from(index)).copied()
     }
 
-    /// The papers' number, from 1 to 15.
+    /// The papers' number: 1 to 15, 18 or 19.
     #[inline]
     pub fn number(self) -> u8 {
         self as u8
@@ -92,6 +104,8 @@ impl Refusal {
             Refusal::ImageValues => "the setup image holds a value that is not allowed",
             Refusal::NoRoom => "the buffer is too short for a setup image of 886 bytes",
             Refusal::NoTable => "there is no such table; they are numbered 1 and 2",
+            Refusal::NotMinute => "a minute of the week is above 10079",
+            Refusal::TooManyWindows => "there are more than eight windows",
         }
     }
 }
@@ -114,7 +128,7 @@ pub struct Error {
 }
 
 impl Error {
-    /// The papers' number, from 1 to 15.
+    /// The papers' number: 1 to 15, 18 or 19.
     #[inline]
     pub fn number(&self) -> u8 {
         self.refusal.number()
@@ -135,15 +149,15 @@ mod tests {
     use std::collections::BTreeSet;
 
     #[test]
-    fn each_number_from_1_to_15_has_a_refusal_and_a_sentence_of_its_own() {
+    fn each_number_of_the_box_has_a_refusal_and_a_sentence_of_its_own() {
         let mut sentences = BTreeSet::new();
-        for number in 1..=15 {
-            let refusal = Refusal::numbered(number).expect("listed");
-            assert_eq!(refusal.number(), number);
-            assert!(sentences.insert(refusal.sentence()), "{number}");
+        for number in 0..=255 {
+            let refusal = Refusal::numbered(number);
+            let listed = matches!(number, 1..=15 | 18 | 19);
+            assert_eq!(refusal.map(Refusal::number), listed.then_some(number));
+            sentences.extend(refusal.map(Refusal::sentence));
         }
-        assert_eq!(Refusal::numbered(0), None);
-        assert_eq!(Refusal::numbered(16), None);
+        assert_eq!(sentences.len(), Refusal::ALL.len());
     }
 
     #[test]

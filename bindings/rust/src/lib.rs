@@ -2,9 +2,9 @@
 //! [`charge`](mod@charge) for water.
 //!
 //! The box is the Rattle library of this repository: every call does what
-//! document 01 and Changes 1 to 3 and 5 of document 02 say, for any box, call and
-//! buffer, and this is proved. [`Pd3120`] reaches it through its C boundary. That
-//! this package declares the boundary as it is, no proof says; its tests and
+//! document 01 and Changes 1 to 3, 5 and 6 of document 02 say, for any box, call
+//! and buffer, and this is proved. [`Pd3120`] reaches it through its C boundary.
+//! That this package declares the boundary as it is, no proof says; its tests and
 //! `tests/rust` compare it. The same holds of the charge and Change 4.
 //!
 //! `./pd3120 lib` builds the archives of both libraries, which are linked in.
@@ -35,10 +35,12 @@ mod boundary;
 pub mod charge;
 mod code;
 mod error;
+pub mod hours;
 pub mod table;
 
 pub use charge::{charge, Block, ChargeRefusal, Tariff};
 pub use error::{Error, Refusal};
+pub use hours::Window;
 pub use table::Pair;
 
 use boundary::Module;
@@ -70,7 +72,7 @@ pub struct Answer {
 
 /// A PD 3120 channel box, powered up.
 ///
-/// It is a plain value of 1496 bytes: it can be moved, cloned and sent to
+/// It is a plain value of 2012 bytes: it can be moved, cloned and sent to
 /// another thread, and nothing of it is held elsewhere.
 #[derive(Clone)]
 pub struct Pd3120 {
@@ -186,6 +188,67 @@ impl Pd3120 {
     #[inline]
     pub fn sample(&mut self, channel: u8, level: bool, amperes: f32) -> Result<(), Error> {
         code::plain(self.module.sample(channel, level, amperes))?;
+        Ok(())
+    }
+
+    /// Sets the minute of the week, 0 to 10079. Each 1920th tick from then moves
+    /// it as the tick begins, from 10079 to 0; each setting starts the 1920 anew.
+    /// Power-up and reset leave it unset, and no channel is closed then. No wire
+    /// call: the watchdog goes on.
+    ///
+    /// ```
+    /// use pd3120::{hours, Pd3120, Refusal};
+    ///
+    /// let mut module = Pd3120::default();
+    /// module.set_minute(hours::minute(6, 23, 59))?;
+    /// let beyond = module.set_minute(10_080).unwrap_err();
+    /// assert_eq!(beyond.refusal, Refusal::NotMinute);
+    /// # Ok::<(), pd3120::Error>(())
+    /// ```
+    #[inline]
+    pub fn set_minute(&mut self, minute: u16) -> Result<(), Error> {
+        code::plain(self.module.set_minute(minute))?;
+        Ok(())
+    }
+
+    /// Gives a channel its windows, whole: up to eight, or none, which takes those
+    /// of before away. Power-up and reset take them away too. While the minute of
+    /// the week is set, a channel with windows has OutFlag and Control cleared at
+    /// each tick outside all of them; opening turns nothing on. No wire call: the
+    /// watchdog goes on.
+    ///
+    /// ```
+    /// use pd3120::{hours, Pd3120, Refusal, Window};
+    ///
+    /// // Channel 4 drives the valve of a standpipe (Functions $10).
+    /// let mut module = Pd3120::default();
+    /// module.write(0x0D, &[1])?; // WriteEnable
+    /// module.write(0x09, &[0, 0x10, 0, 0])?; // ModuleConfig: no watchdog
+    /// module.write(0x49, &[0, 0x10, 0, 0])?; // ChConfig
+    ///
+    /// // Open from 06:00 to 20:00 on the week's first day, and it is 19:59.
+    /// let day = Window {
+    ///     start: hours::minute(0, 6, 0),
+    ///     end: hours::minute(0, 20, 0),
+    /// };
+    /// module.set_windows(4, &[day])?;
+    /// module.set_minute(hours::minute(0, 19, 59))?;
+    /// module.write(0x40, &[0x80])?; // FlagReg
+    /// for _ in 0..1919 {
+    ///     module.tick();
+    /// }
+    /// assert!(module.output(4));
+    /// module.tick();
+    /// assert!(!module.output(4));
+    ///
+    /// let many = module.set_windows(4, &[day; 9]).unwrap_err();
+    /// assert_eq!(many.refusal, Refusal::TooManyWindows);
+    /// # Ok::<(), pd3120::Error>(())
+    /// ```
+    #[inline]
+    pub fn set_windows(&mut self, channel: u8, windows: &[Window]) -> Result<(), Error> {
+        let (numbers, count) = hours::numbers(windows);
+        code::plain(self.module.set_windows(channel, &numbers[..count]))?;
         Ok(())
     }
 

@@ -17,7 +17,7 @@ fn word(module: &mut Pd3120, swno: u16) -> [u8; 4] {
 
 #[test]
 fn a_box_is_its_module_and_nothing_else() {
-    assert_eq!(size_of::<Pd3120>(), 1496);
+    assert_eq!(size_of::<Pd3120>(), 2012);
 }
 
 #[test]

@@ -2,8 +2,8 @@
 
 mod common;
 
-use common::{shown, used};
-use pd3120::{Error, Pd3120};
+use common::{shown, ticks_open, used};
+use pd3120::{Error, Pd3120, Window};
 
 const LENT: [u8; 16] = [0xA5; 16];
 const INFINITE: [u8; 4] = f32::INFINITY.to_be_bytes();
@@ -81,6 +81,42 @@ fn each_sample_is_refused_by_its_number() {
         assert_eq!((error.number(), error.bits), (number, None));
     }
     assert_eq!(shown(&module), before);
+}
+
+fn window(start: u16, end: u16) -> Window {
+    Window { start, end }
+}
+
+#[test]
+fn the_minute_and_windows_are_refused_by_their_numbers_in_order() {
+    let mut module = used();
+    module.set_minute(30).expect("a minute");
+    module.set_windows(4, &[window(20, 40)]).expect("channel 4");
+    let before = shown(&module);
+    let (good, late) = (window(40, 20), window(10_080, 0));
+    let refused = [
+        (18, module.set_minute(10_080)),
+        (18, module.set_minute(u16::MAX)),
+        (8, module.set_windows(0, &[])),
+        (8, module.set_windows(17, &[late; 9])),
+        (8, module.set_windows(255, &[good])),
+        (19, module.set_windows(4, &[good; 9])),
+        (19, module.set_windows(4, &[late; 9])),
+        (19, module.set_windows(16, &[good; 300])),
+        (18, module.set_windows(4, &[late])),
+        (18, module.set_windows(4, &[window(0, 10_080)])),
+        (
+            18,
+            module.set_windows(4, &[good, good, window(9, u16::MAX)]),
+        ),
+    ];
+    for (number, answer) in refused {
+        let error = answer.unwrap_err();
+        assert_eq!((error.number(), error.bits), (number, None));
+    }
+    assert_eq!(shown(&module), before);
+    // The minute is 30 still, and the window that of before: it closes at 40.
+    assert_eq!(ticks_open(module, 4), 10 * 1920 - 1);
 }
 
 #[test]

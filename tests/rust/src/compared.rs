@@ -157,6 +157,12 @@ mod tests {
         ) -> (u8, u64) {
             self.0.charge(earlier, later, litres, limits, prices)
         }
+        fn minute(&mut self, minute: u16) -> u8 {
+            self.0.minute(minute)
+        }
+        fn windows(&mut self, channel: u8, windows: &[(u16, u16)]) -> u8 {
+            self.0.windows(channel, windows)
+        }
         fn output(&self, channel: u8) -> bool {
             self.0.output(channel)
         }

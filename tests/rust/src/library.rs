@@ -1,6 +1,6 @@
 //! The library's box as a device that scripts are played on, and its charge.
 
-use pd3120::{Block, Error, ErrorBits, Pd3120, Tariff};
+use pd3120::{Block, Error, ErrorBits, Pd3120, Tariff, Window};
 use reference_box::player::Device;
 use reference_box::reals::Real;
 use reference_box::Answer;
@@ -92,6 +92,16 @@ impl Device for Library {
             Ok(cents) => (0, cents),
             Err(refusal) => (refusal.number(), 0),
         }
+    }
+
+    fn minute(&mut self, minute: u16) -> u8 {
+        number(self.0.set_minute(minute))
+    }
+
+    fn windows(&mut self, channel: u8, windows: &[(u16, u16)]) -> u8 {
+        let window = |&(start, end): &(u16, u16)| Window { start, end };
+        let windows: Vec<Window> = windows.iter().map(window).collect();
+        number(self.0.set_windows(channel, &windows))
     }
 
     fn output(&self, channel: u8) -> bool {

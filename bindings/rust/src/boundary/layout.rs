@@ -45,6 +45,18 @@ struct Kept {
 }
 
 #[repr(C)]
+struct Window {
+    start: u16,
+    end: u16,
+}
+
+#[repr(C)]
+struct Timetable {
+    count: u8,
+    windows: [Window; 8],
+}
+
+#[repr(C)]
 struct Channel {
     config: Config,
     out_timer: i32,
@@ -60,7 +72,14 @@ struct Channel {
     reals: [u8; 8],
     maintenance: [u8; 4],
     quarters: u8,
+    timetable: Timetable,
     kept: Kept,
+}
+
+#[repr(C)]
+struct Clock {
+    minute: u16,
+    ticks: u16,
 }
 
 #[repr(C)]
@@ -70,6 +89,7 @@ struct Shared {
     wd_preset: i32,
     write_enable: bool,
     save_ticks: u32,
+    clock: Clock,
 }
 
 #[repr(C)]
@@ -133,8 +153,8 @@ fn look(module: &Module) -> &Copied {
 }
 
 #[test]
-fn a_module_has_1496_bytes_aligned_to_4() {
-    assert_eq!(size_of::<Module>(), 1496);
+fn a_module_has_2012_bytes_aligned_to_4() {
+    assert_eq!(size_of::<Module>(), 2012);
     assert_eq!(size_of::<Copied>(), size_of::<Module>());
     assert_eq!(align_of::<Copied>(), align_of::<Module>());
 }
@@ -167,6 +187,25 @@ fn the_library_uses_the_memory_from_its_first_field_to_its_last() {
     assert_eq!((data.table1.pairs[9].y, data.table2.pairs[9].y), (0.0, 7.0));
 }
 
+/// Unset is a minute above 10079.
+#[test]
+fn the_minute_and_the_windows_lie_where_the_copy_has_them() {
+    let (mut module, _) = Module::powered_up(&[]);
+    assert!(look(&module).shared.clock.minute > 10_079);
+    module.set_minute(10_079);
+    module.tick();
+    let Clock { minute, ticks } = look(&module).shared.clock;
+    assert_eq!((minute, ticks), (10_079, 1));
+    let windows = [0x0102_0304, 1, 2, 3, 4, 5, 6, 0x2710_0708];
+    assert_eq!(module.set_windows(16, &windows), 0);
+    let [.., before, last] = &look(&module).channels;
+    assert_eq!((before.timetable.count, last.timetable.count), (0, 8));
+    let [first, .., eighth] = &last.timetable.windows;
+    assert_eq!((first.start, first.end), (0x0102, 0x0304));
+    assert_eq!((eighth.start, eighth.end), (10_000, 0x0708));
+    assert_eq!(last.kept.user, [0; 4]);
+}
+
 #[test]
 fn no_call_writes_outside_the_module() {
     #[repr(C)]
@@ -192,6 +231,9 @@ fn no_call_writes_outside_the_module() {
     guarded.module.write(0x13D, &[0; 80]);
     for channel in 0..18 {
         guarded.module.sample(channel, true, 3.0);
+        guarded.module.set_minute(u16::from(channel));
+        guarded.module.set_windows(channel, &[1; 8]);
+        guarded.module.set_windows(channel, &[1; 9]);
         guarded.module.tick();
         guarded.module.output(channel);
         guarded.module.look_up(channel, 1.0);

@@ -1,4 +1,8 @@
-//! What the tests share: everything that a box shows of itself.
+//! What the tests share: everything that a box shows of itself, and how long an
+//! output stays on.
+
+// Not every test uses all of it.
+#![allow(dead_code)]
 
 use pd3120::table::LENGTH;
 use pd3120::{Answer, Error, Pd3120, IMAGE_LENGTH};
@@ -42,4 +46,13 @@ pub fn used() -> Pd3120 {
         module.tick();
     }
     module
+}
+
+/// How many ticks a channel's output stays on for, of two hours at most.
+pub fn ticks_open(mut module: Pd3120, channel: u8) -> usize {
+    let still_on = |_: &usize| {
+        module.tick();
+        module.output(channel)
+    };
+    (0..2 * 60 * 1920).take_while(still_on).count()
 }

@@ -1,6 +1,6 @@
 //! Single calls, each made many times on a prepared box.
 
-use crate::sides::Side;
+use crate::sides::{Side, Windows};
 use pd3120::Tariff;
 use reference_box::channel::{flag, Config, Kept};
 use reference_box::data::{KeptData, LookUp, Pair};
@@ -17,6 +17,9 @@ pub enum Start {
     /// All sixteen channels running a duty cycle, with two references each, and
     /// a rising LookUp1.
     Busy,
+    /// The busy box with the minute of the week set, and so many windows on each
+    /// channel, of which only the last is open.
+    Hours(usize),
 }
 
 /// The call that is made.
@@ -27,6 +30,8 @@ pub enum Work {
     Write(u16, &'static [u8]),
     Sample,
     LookUp,
+    Minute,
+    Windows,
     PowerUp,
     Store,
     Charge,
@@ -36,6 +41,9 @@ pub enum Work {
 pub const CASES: &[(&str, Start, Work)] = &[
     ("tick, idle box", Start::Idle, Work::Tick),
     ("tick, busy box", Start::Busy, Work::Tick),
+    ("tick, minute set", Start::Hours(0), Work::Tick),
+    ("tick, one window each", Start::Hours(1), Work::Tick),
+    ("tick, eight windows each", Start::Hours(8), Work::Tick),
     ("read FlagReg ($10)", Start::Busy, Work::Read(0x10)),
     ("read Counter ($12)", Start::Busy, Work::Read(0x12)),
     ("read ChError ($1F)", Start::Busy, Work::Read(0x1F)),
@@ -53,6 +61,8 @@ pub const CASES: &[(&str, Start, Work)] = &[
     ),
     ("sample, level alternating", Start::Busy, Work::Sample),
     ("lookup, in the middle", Start::Busy, Work::LookUp),
+    ("set the minute", Start::Busy, Work::Minute),
+    ("set eight windows", Start::Busy, Work::Windows),
     ("power-up, 886 bytes", Start::Busy, Work::PowerUp),
     ("store, 886 bytes", Start::Busy, Work::Store),
     ("charge, four blocks", Start::Idle, Work::Charge),
@@ -96,6 +106,20 @@ fn busy_data() -> KeptData {
 /// An X between the fifth and the sixth entry.
 const MIDDLE: f32 = 5.3;
 
+/// The minute that is set, and windows of which only the last has it and the
+/// 9999 minutes after it.
+const NOW: u16 = 0;
+const HOURS: [(u16, u16); 8] = [
+    (10_072, 10_073),
+    (10_073, 10_074),
+    (10_074, 10_075),
+    (10_075, 10_076),
+    (10_076, 10_077),
+    (10_077, 10_078),
+    (10_078, 10_079),
+    (0, 10_000),
+];
+
 /// A charge that has litres in each block: 350 pulses of ten litres.
 const READINGS: [i32; 2] = [i32::MAX - 99, i32::MIN + 250];
 const LITRES_PER_PULSE: u32 = 10;
@@ -105,11 +129,11 @@ const TARIFF: Tariff = Tariff {
     prices: [150, 200, 325, 410],
 };
 
-/// The setup image of a start, in both with the watchdog off.
+/// The setup image of a start, in all with the watchdog off.
 pub fn image(start: Start) -> [u8; LENGTH] {
     let (channels, data) = match start {
         Start::Idle => ([Kept::default(); CHANNELS], KeptData::default()),
-        Start::Busy => {
+        Start::Busy | Start::Hours(_) => {
             let channel = |index| busy_channel(index as u8 + 1);
             (std::array::from_fn(channel), busy_data())
         }
@@ -128,11 +152,16 @@ pub fn prepared<S: Side>(start: Start) -> S {
     let mut side = S::default();
     side.power_up(&image(start));
     side.write(0x0D, &[1]);
-    if let Start::Busy = start {
+    if let Start::Busy | Start::Hours(_) = start {
         for channel in 1..=16 {
             side.write(u16::from(channel) * 0x10, &[flag::CONTROL]);
             side.sample(channel, channel % 2 == 0, 0.0);
         }
+    }
+    if let Start::Hours(count) = start {
+        side.set_minute(NOW);
+        let windows = Windows::new(&HOURS[HOURS.len() - count..]);
+        (1..=16).for_each(|channel| side.set_windows(channel, &windows));
     }
     side
 }
@@ -143,6 +172,7 @@ pub fn repeat<S: Side>(side: &mut S, work: Work, times: u32) {
     let mut buffer = [0; LONGEST];
     let mut room = [0; LENGTH];
     let image = image(Start::Busy);
+    let windows = Windows::new(&HOURS);
     match work {
         Work::Tick => (0..times).for_each(|_| side.tick()),
         Work::Read(swno) => (0..times).for_each(|_| {
@@ -156,6 +186,10 @@ pub fn repeat<S: Side>(side: &mut S, work: Work, times: u32) {
         }),
         Work::LookUp => (0..times).for_each(|_| {
             side.look_up(black_box(1), black_box(MIDDLE));
+        }),
+        Work::Minute => (0..times).for_each(|_| side.set_minute(black_box(NOW))),
+        Work::Windows => (0..times).for_each(|_| {
+            side.set_windows(black_box(4), black_box(&windows));
         }),
         Work::PowerUp => (0..times).for_each(|_| side.power_up(black_box(&image))),
         Work::Store => (0..times).for_each(|_| side.store(black_box(&mut room))),
@@ -175,7 +209,7 @@ pub fn repeat<S: Side>(side: &mut S, work: Work, times: u32) {
 mod tests {
     use super::*;
     use crate::sides::Library;
-    use pd3120::{charge, Error, Pd3120};
+    use pd3120::{charge, Error, Pd3120, Window};
 
     fn make(module: &mut Pd3120, work: Work) -> Result<(), Error> {
         match work {
@@ -184,6 +218,10 @@ mod tests {
             Work::Write(swno, bytes) => drop(module.write(swno, bytes)?),
             Work::Sample => module.sample(4, true, 0.5)?,
             Work::LookUp => drop(module.look_up(1, MIDDLE)?),
+            Work::Minute => module.set_minute(NOW)?,
+            Work::Windows => {
+                module.set_windows(4, &HOURS.map(|(start, end)| Window { start, end }))?;
+            }
             Work::PowerUp => module.power_up_again(&image(Start::Busy))?,
             Work::Store => drop(module.store(&mut [0; LENGTH])?),
             Work::Charge => {} // no call on the box; its test stands below
@@ -217,14 +255,30 @@ mod tests {
 
     #[test]
     fn every_channel_of_the_busy_box_turns_its_output() {
-        let Library(mut module) = prepared(Start::Busy);
-        for channel in 1..=16 {
-            let mut seen = [false; 2];
+        for start in [Start::Busy, Start::Hours(1), Start::Hours(8)] {
+            let Library(mut module) = prepared(start);
+            for channel in 1..=16 {
+                let mut seen = [false; 2];
+                for _ in 0..8 {
+                    module.tick();
+                    seen[usize::from(module.output(channel))] = true;
+                }
+                assert_eq!(seen, [true; 2], "{channel}");
+            }
+        }
+    }
+
+    /// The windows are in place: at a minute outside them no output stays on.
+    #[test]
+    fn every_channel_of_the_box_with_windows_can_be_closed() {
+        for count in [0, 1, 8] {
+            let Library(mut module) = prepared(Start::Hours(count));
+            module.set_minute(10_079).expect("a minute");
             for _ in 0..8 {
                 module.tick();
-                seen[usize::from(module.output(channel))] = true;
+                let on = (1..=16).filter(|&channel| module.output(channel)).count();
+                assert!(count == 0 || on == 0, "{count}");
             }
-            assert_eq!(seen, [true; 2], "{channel}");
         }
     }
 }

@@ -1,9 +1,26 @@
 //! The two boxes that are measured.
 
-use pd3120::{Pd3120, Tariff};
+use pd3120::{Pd3120, Tariff, Window};
 use reference_box::image::LENGTH;
 use reference_box::{charge, ChannelBox};
 use std::hint::black_box;
+
+/// Windows, for each side as it takes them.
+#[derive(Clone)]
+pub struct Windows {
+    library: Vec<Window>,
+    model: Vec<(u16, u16)>,
+}
+
+impl Windows {
+    pub fn new(model: &[(u16, u16)]) -> Windows {
+        let window = |&(start, end): &(u16, u16)| Window { start, end };
+        Windows {
+            library: model.iter().map(window).collect(),
+            model: model.to_vec(),
+        }
+    }
+}
 
 /// A box whose calls are measured. Each method makes one call and hands the
 /// answer to `black_box`, so that none is left out for not being used.
@@ -14,6 +31,8 @@ pub trait Side: Clone + Default {
     fn write(&mut self, swno: u16, bytes: &[u8]);
     fn sample(&mut self, channel: u8, level: bool, amperes: f32);
     fn look_up(&self, table: u8, x: f32);
+    fn set_minute(&mut self, minute: u16);
+    fn set_windows(&mut self, channel: u8, windows: &Windows);
     fn tick(&mut self);
     /// By a tariff of four blocks. The box has no part in it.
     fn charge(&self, earlier: i32, later: i32, litres_per_pulse: u32, tariff: &Tariff);
@@ -53,6 +72,14 @@ impl Side for Library {
 
     fn look_up(&self, table: u8, x: f32) {
         let _ = black_box(self.0.look_up(table, x));
+    }
+
+    fn set_minute(&mut self, minute: u16) {
+        let _ = black_box(self.0.set_minute(minute));
+    }
+
+    fn set_windows(&mut self, channel: u8, windows: &Windows) {
+        let _ = black_box(self.0.set_windows(channel, &windows.library));
     }
 
     fn tick(&mut self) {
@@ -99,6 +126,16 @@ impl Side for Model {
     #[inline(never)]
     fn look_up(&self, table: u8, x: f32) {
         black_box(self.0.lookup(table, x.to_bits()));
+    }
+
+    #[inline(never)]
+    fn set_minute(&mut self, minute: u16) {
+        black_box(self.0.minute(minute));
+    }
+
+    #[inline(never)]
+    fn set_windows(&mut self, channel: u8, windows: &Windows) {
+        black_box(self.0.windows(channel, &windows.model));
     }
 
     #[inline(never)]
