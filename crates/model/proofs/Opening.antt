@@ -17,7 +17,7 @@ use Rattle.model.specs.declared.Reply.{Reply}
 use Rattle.model.specs.declared.Reply.the-variants.{Done, Refused}
 use Rattle.model.specs.declared.ServiceRegister.{ServiceRegister}
 use Rattle.model.specs.declared.ServiceRegister.the-variants.{Highest, Reset, FreeRunTimer, WDTimer, ModuleConfig, WDPreset, WriteEnable, CommonError}
-use Rattle.model.specs.State.{inFlag, outFlag, channelAt, writeEnable, wdTimer, withClock}
+use Rattle.model.specs.State.{inFlag, outFlag, channelAt, writeEnable, wdTimer, withClock, withShared}
 use Rattle.model.specs.Hours.{timeOf, within, anyOpens, hasWindows, minuteSet, closed, clockTicked, unsetClock, windowOf, window}
 use Rattle.model.specs.Registers.{place, serviceRow}
 use Rattle.model.specs.Settings.{functions}
@@ -35,7 +35,7 @@ use Rattle.model.specs.TwoLists.{stranger, struck, marks}
 use Rattle.model.specs.Runs.{ticksBy}
 use Rattle.model.specs.Opening.{minutesFrom, ticksIn, resetsBy, setsMinute, hasOrResets, setsAny, Opening, OpenOrClosed, HoursOutOfRange, HoursInLists}
 use Rattle.model.proofs.Laws.Tests.{either, by-test, neither}
-use Rattle.model.proofs.Laws.Lists.{at-mapped}
+use Rattle.model.proofs.Laws.Lists.{at-mapped, at-same}
 use Rattle.model.proofs.Laws.Places.{place-cases}
 use Rattle.model.proofs.Facts.Steps.{Off, off-driven}
 
@@ -269,8 +269,21 @@ off-ticked m c e =
     (off-reviewed s due (Tick.levels m) (Tick.driven s out (channelAt m c))
     (subst Off (sym (closed-driven s out (channelAt m c) e)) (off-driven (withClock unsetClock s) (channelAt m c))))
 
+-- steps 5 to 7 do not look at the clock
+open-ticked : (m : Module) (c : ℕ) → closed (Tick.ticked m .shared .clock) (channelAt m c .timetable) ≡ false →
+    channelAt (Tick.ticked m) c ≡ channelAt (Tick.ticked (withShared (withClock unsetClock (m .shared)) m)) c
+unfolding Tick.ticked Tick.tickShared Tick.reviewed Tick.looked Tick.lookDue Tick.judged Tick.found Tick.runsOut Tick.saveDue clockTicked
+open-ticked m c e =
+    let s = Tick.tickShared (m .shared) in
+    let s′ = withClock unsetClock s in
+    let out = Tick.runsOut (m .shared) (wdTimer (m .service)) in
+    let due = Tick.saveDue (m .shared) in
+    at-same (Tick.channelTicked s out due (Tick.levels m)) (Tick.channelTicked s′ out due (Tick.levels m)) (m .channels) (c - 1)
+    (ap (Tick.reviewed s due (Tick.levels m)) (open-driven s out (channelAt m c) e))
+
 pub open-or-closed : OpenOrClosed
-open-or-closed = record { open-driven = open-driven; closed-driven = closed-driven; while-unset = while-unset; off = off-ticked }
+open-or-closed =
+    record { open-driven = open-driven; closed-driven = closed-driven; open-ticked = open-ticked; while-unset = while-unset; off = off-ticked }
 
 -- ---- numbers out of range
 no-minute : (n t : ℕ) → 10080 ≤ n → clockTicked (record { minute = n; ticks = t }) ≡ record { minute = n; ticks = t }

@@ -58,7 +58,7 @@ middle = write 0x19 (0 ∷ 0x10 ∷ 2 ∷ 4 ∷ []) ∷ write 0x10 (0x80 ∷ [])
 abbrev pub strangersFirst : List Request
 strangersFirst = write 0x30 (0x80 ∷ []) ∷ sample 3 true (ofInt binary32 (pos 1)) ∷ windows 3 (window 200 400 ∷ []) ∷ read 0x3F [] ∷ []
 
--- other calls for it: a write of two bytes where one is due, windows that are not open, nine windows, and a write that the next tick undoes
+-- other calls for it: a write of two bytes where one is due, windows that are not open, nine windows, a sample, and a write that the next tick undoes
 abbrev pub strangersSecond : List Request
 strangersSecond =
     write 0x30 (0 ∷ 0 ∷ []) ∷ windows 3 (window 400 200 ∷ []) ∷ windows 3 (replicate 9 0) ∷ sample 3 true (ofInt binary32 (pos 1)) ∷ write 0x30 (0x80 ∷ []) ∷ []

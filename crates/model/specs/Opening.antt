@@ -15,7 +15,7 @@ use Rattle.model.specs.declared.Timetable.{Timetable}
 use Rattle.model.specs.declared.Channel.{Channel}
 use Rattle.model.specs.declared.Shared.{Shared}
 use Rattle.model.specs.declared.Module.{Module}
-use Rattle.model.specs.State.{outFlag, control, channelAt, writeEnable, withClock}
+use Rattle.model.specs.State.{outFlag, control, channelAt, writeEnable, withClock, withShared}
 use Rattle.model.specs.Hours.{unsetClock, minuteSet, clockTicked, noWindows, window, windowOf, timetableOf, timeOf, opens, anyOpens, closed}
 use Rattle.model.specs.Registers.{place}
 use Rattle.model.specs.Tick.{driven, ticked}
@@ -90,12 +90,15 @@ pub record OpenOrClosed : Type 0 where
       driven s ranOut ch ≡ driven (withClock unsetClock s) ranOut ch
   pub closed-driven : (s : Shared) (ranOut : Bool) (ch : Channel) → closed (s .clock) (ch .timetable) ≡ true →
       driven s ranOut ch ≡ driven (withClock unsetClock s) true ch
+  -- and so it is after the whole tick
+  pub open-ticked : (m : Module) (c : ℕ) → closed (ticked m .shared .clock) (channelAt m c .timetable) ≡ false →
+      channelAt (ticked m) c ≡ channelAt (ticked (withShared (withClock unsetClock (m .shared)) m)) c
   pub while-unset : (k : Clock) (t : Timetable) → minuteSet k ≡ false → closed k t ≡ false
   -- by the minute as the tick has moved it
   pub off : (m : Module) (c : ℕ) → closed (ticked m .shared .clock) (channelAt m c .timetable) ≡ true →
       (outFlag (channelAt (ticked m) c) ≡ false) × (control (channelAt (ticked m) c) ≡ false)
 
--- ---- a number out of its range acts as after a refused power-up; it is not put right
+-- ---- Change 1, 9: a number out of its range acts as after a refused power-up, and stands until a call or a tick puts it anew
 pub record HoursOutOfRange : Type 0 where
   -- a minute, as unset
   pub no-minute : (n t : ℕ) → 10080 ≤ n → clockTicked (record { minute = n; ticks = t }) ≡ record { minute = n; ticks = t }

@@ -1,4 +1,5 @@
--- Document 01, Setup image 2 and 3, and Questions 17: what power-up and reset restore of the kept values; all else is 0. Definitions only.
+-- Document 01, Setup image 2 and 3, and Questions 17: what power-up and reset restore of the kept values; the minute of the week
+-- is unset, and all else is 0. Definitions only.
 use mathlib.Core.Bool.{true, false}
 use mathlib.Core.List.{map}
 use lib.IntN.{pos}

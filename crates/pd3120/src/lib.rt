@@ -258,8 +258,8 @@ pub fn set_minute(m: Module, of_week: u16) -> Sampled
     }
 }
 
-// A channel's windows, given whole; none takes them away. Each is one number, its start times 65536
-// plus its end.
+// A channel's windows, given whole; an empty slice takes them away. Each is one number, its start
+// times 65536 plus its end.
 pub fn set_windows(m: Module, channel: u8, given: &[u32]) -> Sampled
     ensures { λ r. ⌜ sampleOf r ≡ step m (windows channel (now (given .entry))) ⌝ }
 {
@@ -327,8 +327,8 @@ fn looked_up(m: Module, table: u8, x: f32) -> Answered
     }
 }
 
-// Any of the seven calls: a write takes its bytes from written, a channel's windows are those of
-// windows, and a read lends lent.
+// Any of the seven calls: a write takes its bytes from written, a channel is given the windows of the
+// slice windows, and a read lends lent.
 pub fn call(m: Module, c: Call, written: &[u8], windows: &[u32], lent: &mut [u8]) -> Answered
     ensures answer { λ r. ⌜ stepOf r (answerBuffer c (now (lent .exit))) ≡ step m (requestOf c (now (written .entry)) (now (windows .entry)) (now (lent .entry))) ⌝ }
     ensures buffer { λ r. ⌜ now (lent .exit) ≡ lentAfter c m (now (lent .entry)) ⌝ }

@@ -22,7 +22,7 @@ pub struct Done {
     pub code: u32,
 }
 
-// The channel that a sample or its windows leave, and the code of the answer.
+// The channel that a sample, or windows for it, leave, and the code of the answer.
 pub struct ChannelDone {
     pub after: Channel,
     pub code: u32,

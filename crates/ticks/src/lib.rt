@@ -21,7 +21,8 @@ use model::Shared;
 
 // What a tick has worked out when it comes to the channels: the shared record and the service record
 // after step 1, how many channels it saves in the end (all or none), whether the watchdog ran out,
-// where it looks at the feedback the InFlags, bit k-1 for channel k, and so which channels are closed.
+// where it looks at the feedback the InFlags, bit k-1 for channel k, and in the same order which
+// channels are closed.
 pub struct Begun {
     pub shared: Shared,
     pub service: Service,

@@ -25,6 +25,13 @@ at-map f d [] i h = absurd (not-suc-le-zero h)
 at-map f d (x ∷ xs) zero h = refl
 at-map f d (x ∷ xs) (suc i) h = at-map f d xs i (le-of-suc-le-suc h)
 
+-- two rules that do the same at a place
+pub at-same : (f g : Channel → Channel) (cs : List Channel) (i : ℕ) → f (getD cs i nothing) ≡ g (getD cs i nothing)
+    → getD (map f cs) i nothing ≡ getD (map g cs) i nothing
+at-same f g [] i e = refl
+at-same f g (x ∷ xs) zero e = e
+at-same f g (x ∷ xs) (suc i) e = at-same f g xs i e
+
 -- ---- what holds at a place, or of what stands past the end, holds there afterwards
 module _ (P : Channel → Type 0) where
   pub at-mapped : (f : Channel → Channel) (cs : List Channel) (i : ℕ) → P nothing → P (f (getD cs i nothing)) → P (getD (map f cs) i nothing)

@@ -38,7 +38,7 @@ pub record HoursBoxes : Type 0 where
   -- Change 6, 2 and 3: the 1920th tick is judged by the minute that it moved to: the start is in the window, and the end is not
   pub starts : Plays (atTime 9 1918) (takes (windows 1 (window 10 20 ∷ [])) then on then ticks 1 then shows 0x00 then on then ticks 1 then shows 0x80)
   pub ends : Plays (atTime 19 1918) (takes (windows 1 (window 10 20 ∷ [])) then on then ticks 1 then shows 0x80 then ticks 1 then shows 0x00)
-  -- 3: over the week's end, which takes the minute from 10079 to 0; and to the week's end
+  -- 2 and 3: over the week's end, which takes the minute from 10079 to 0; and to the week's end
   pub over : Plays (atTime 10079 1918) (takes (windows 1 (window 10079 1 ∷ [])) then on then ticks 1 then shows 0x80 then ticks 1 then shows 0x80)
   pub next-week : Plays (atTime 0 1918) (takes (windows 1 (window 10079 1 ∷ [])) then on then ticks 1 then shows 0x80 then ticks 1 then shows 0x00)
   pub to-the-end : Plays (atTime 10079 1918) (takes (windows 1 (window 10000 0 ∷ [])) then on then ticks 1 then shows 0x80 then ticks 1 then shows 0x00)
@@ -50,11 +50,11 @@ pub record HoursBoxes : Type 0 where
       then with-windows 5 (replicate 8 (window 7 8)) 0x00)
   -- 2: each setting starts the 1920 ticks anew, of the same minute too, and a refused one does not
   pub set-anew : Plays (atTime 9 1918) (takes (windows 1 (window 10 20 ∷ [])) then takes (minute 9) then ticks 1 then on then ticks 1 then shows 0x00)
-  pub not-set : Plays (atTime 9 1918) (takes (windows 1 (window 10 20 ∷ [])) then refuses 18 (minute 10080) then ticks 1 then on then ticks 1 then shows 0x80)
+  pub not-set : Plays (atTime 9 1918) (takes (windows 1 (window 9 10 ∷ [])) then refuses 18 (minute 10080) then on then ticks 1 then shows 0x80 then ticks 1 then shows 0x00)
   -- 4: a write between ticks switches a closed channel on until the next tick, by FlagReg and by OutFlags; opening turns nothing on
   pub between : Plays hoursBox
       (takes (minute 5) then takes (windows 1 shut) then on then shows 0x80 then ticks 1 then shows 0x00 then writes 0x110 (two 0x0001) past then shows 0x80
-      then ticks 1 then shows 0x00 then takes (windows 1 []) then ticks 1 then shows 0x00)
+      then ticks 1 then shows 0x00 then takes (windows 1 (window 5 6 ∷ [])) then ticks 1 then shows 0x00)
   -- 4: unset, windows close nothing
   pub unset : Plays hoursBox (takes (windows 1 shut) then on then ticks 2 then shows 0x80 then takes (minute 5) then ticks 1 then shows 0x00)
   -- 4: the special function of a closed one-shot sees Control FALSE, so that OutTimer is not loaded; opened, the same write is an edge
@@ -86,6 +86,7 @@ pub record HoursBoxes : Type 0 where
       (takes (minute 5) then takes (windows 1 (window 5 6 ∷ [])) then refuses 18 (minute 10080) then refuses 18 (minute 65535)
       then refuses 19 (windows 1 (replicate 9 (window 7 8))) then refuses 19 (windows 1 (replicate 9 (window 10080 0)))
       then refuses 18 (windows 1 (window 7 8 ∷ window 10080 0 ∷ [])) then refuses 18 (windows 1 (window 0 10080 ∷ window 7 8 ∷ []))
-      then refuses 8 (windows 0 []) then refuses 8 (windows 17 (replicate 9 (window 10080 0))) then on then ticks 1 then shows 0x80)
-  -- windows of one channel close no other
+      then refuses 8 (windows 0 []) then refuses 8 (windows 17 (replicate 9 (window 10080 0))) then on then ticks 1 then shows 0x80
+      then takes (windows 1 shut) then ticks 1 then shows 0x00)
+  -- 4: windows of one channel close no other
   pub apart : Plays hoursBox (takes (minute 5) then takes (windows 2 shut) then takes (windows 16 shut) then on then ticks 1 then shows 0x80)
