@@ -58,7 +58,7 @@ pub(crate) fn no_windows() -> Windows {
     }
 }
 
-// How many windows there are, as a bound that a caller can go by: no line is taken with more.
+// How many windows there are, at most sixteen; no line has more.
 pub fn window_count(w: Windows) -> usize
     ensures { λ r. ⌜ r ≤ length (w .numbers) ⌝ }
 {
