@@ -3,7 +3,7 @@
 ghost use mathlib.Core.Path.{_≡_};
 ghost use Prim.Native.Nat.{_≤_};
 ghost use lib.ListN.{length, take};
-ghost use Rattle.model.specs.Hours.{unsetClock, minuteSet, clockAt, clockTicked, noWindows, windowOf, timetableOf, timeOf, within, opens, anyOpens, closed};
+ghost use Rattle.model.specs.Hours.{unsetClock, clockAt, clockTicked, noWindows, windowOf, timetableOf, timeOf, within, opens, anyOpens, closed};
 use model::Clock;
 use model::Timetable;
 use model::Window;
@@ -18,12 +18,6 @@ pub fn unset() -> Clock
         minute: UNSET,
         ticks: 0,
     }
-}
-
-pub fn is_set(clock: Clock) -> bool
-    ensures { λ r. ⌜ r ≡ minuteSet clock ⌝ }
-{
-    clock.minute <= 10079
 }
 
 // Each setting starts the count of ticks anew.

@@ -166,7 +166,7 @@ pub extern "C" fn pd3120_tick(m: &mut Module)
     m.data_channel = ticks::tick_data(begun, m.data_channel);
     let mut k = 0;
     while k < 16 {
-        m.channels[k] = ticks::tick_one(begun, k, m.channels[k]);
+        m.channels[k] = ticks::tick_one(begun, m.channels[k]);
         k += 1;
     }
     k = 0;

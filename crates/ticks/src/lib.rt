@@ -5,14 +5,12 @@ ghost use mathlib.Core.Bool.{cond};
 ghost use mathlib.Core.List.{map};
 ghost use Rattle.model.specs.State.{inFlag};
 ghost use Rattle.model.specs.Errors.{bitValue, wordOf};
-ghost use Rattle.model.specs.Tick.{saveDue, tickShared, watchdogOn, isZero, runsOut, tickService, shutDown, drivenFrom, lookDue, looked, operated, judged, saved, ticked};
-ghost use Rattle.model.specs.Writes.{each};
+ghost use Rattle.model.specs.Tick.{saveDue, tickShared, watchdogOn, isZero, runsOut, tickService, driven, lookDue, looked, operated, judged, saved, ticked};
 ghost use Rattle.settings.specs.Levels.{levelsOf};
-ghost use Rattle.ticks.specs.Begun.{closedBy, begunOf, tickedBy, dataTickedBy};
+ghost use Rattle.ticks.specs.Begun.{begunOf, tickedBy, dataTickedBy};
 ghost use Rattle.ticks.specs.PutBack.{putBack};
 use counts::TimerCount;
 use model::Channel;
-use model::Clock;
 use model::DataChannel;
 use model::DataTimers;
 use model::Module;
@@ -21,15 +19,13 @@ use model::Shared;
 
 // What a tick has worked out when it comes to the channels: the shared record and the service record
 // after step 1, how many channels it saves in the end (all or none), whether the watchdog ran out,
-// where it looks at the feedback the InFlags, bit k-1 for channel k, and in the same order which
-// channels are closed.
+// and, where it looks at the feedback, the InFlags, bit k-1 for channel k.
 pub struct Begun {
     pub shared: Shared,
     pub service: Service,
     pub count: usize,
     pub ran_out: bool,
     pub levels: u16,
-    pub closed: u16,
 }
 
 // Ten hours are 1152000 ticks. A count past them acts as the last.
@@ -120,32 +116,6 @@ fn levels_looked_at(s: Shared, channels: [Channel; 16]) -> u16
     0
 }
 
-// Whether each channel is closed, from channel 16 down, so that channel 1 comes to bit 0.
-fn closed_word(clock: Clock, channels: [Channel; 16]) -> u16
-    ensures { λ r. ⌜ r ≡ wordOf (map (closedBy clock) channels) ⌝ }
-{
-    let mut r: u16 = 0;
-    let mut i = 16;
-    while 0 < i {
-        i -= 1;
-        let one = channels[i];
-        let timetable = one.timetable;
-        let b = bit(hours::closed(clock, timetable));
-        r = r * 2 + b;
-    }
-    r
-}
-
-// None is while the minute is unset, and then no timetable is looked at.
-fn closed_channels(clock: Clock, channels: [Channel; 16]) -> u16
-    ensures { λ r. ⌜ r ≡ wordOf (map (closedBy clock) channels) ⌝ }
-{
-    if hours::is_set(clock) {
-        return closed_word(clock, channels);
-    }
-    0
-}
-
 fn count_if(due: bool) -> usize
     ensures { λ r. ⌜ r ≡ cond due 16 0 ⌝ }
 {
@@ -161,22 +131,20 @@ pub fn begin(m: Module) -> Begun
     let channels = m.channels;
     let ran_out = runs_out(before, service.wd_timer);
     let after = tick_shared(before);
-    let clock = after.clock;
     Begun {
         shared: after,
         service: tick_service(ran_out, service),
         count: count_if(save_due(before)),
         ran_out: ran_out,
         levels: levels_looked_at(after, channels),
-        closed: closed_channels(clock, channels),
     }
 }
 
-// Steps 2 to 6 on one channel, which is off or not as they begin.
-fn tick_channel(s: Shared, off: bool, levels: u16, ch: Channel) -> Channel
-    ensures { λ r. ⌜ r ≡ judged s (operated (looked s (levelsOf levels) (drivenFrom s ch (shutDown off ch)))) ⌝ }
+// Steps 2 to 6 on one channel, which is off where the watchdog ran out.
+fn tick_channel(s: Shared, ran_out: bool, levels: u16, ch: Channel) -> Channel
+    ensures { λ r. ⌜ r ≡ judged s (operated (looked s (levelsOf levels) (driven s «ran_out» ch))) ⌝ }
 {
-    review::review(s, levels, drive::drive(s, off, ch))
+    review::review(s, levels, drive::drive(s, ran_out, ch))
 }
 
 // Takes from the channel after steps 2 to 6 only the parts that these can change, so that a caller
@@ -199,13 +167,12 @@ fn put_back(after: Channel, ch: Channel) -> Channel
     next
 }
 
-// The channel at place k, up to step 6.
-pub fn tick_one(b: Begun, k: usize, ch: Channel) -> Channel
-    ensures { λ r. ⌜ r ≡ tickedBy b k ch ⌝ }
+// One channel, up to step 6.
+pub fn tick_one(b: Begun, ch: Channel) -> Channel
+    ensures { λ r. ⌜ r ≡ tickedBy b ch ⌝ }
 {
     let s = b.shared;
-    let off = b.ran_out | settings::bit_of(b.closed, k);
-    put_back(tick_channel(s, off, b.levels, ch), ch)
+    put_back(tick_channel(s, b.ran_out, b.levels, ch), ch)
 }
 
 // The data channel: its timers run, and a tick that saves keeps RealA.
@@ -229,12 +196,12 @@ pub fn tick_data(b: Begun, d: DataChannel) -> DataChannel
 
 // From channel 1 to 16, each with step 7.
 fn tick_channels(b: Begun, due: bool, channels: [Channel; 16]) -> [Channel; 16]
-    ensures { λ r. ⌜ r ≡ each (λ k ch. saved due (tickedBy b k ch)) 0 channels ⌝ }
+    ensures { λ r. ⌜ r ≡ map (λ ch. saved due (tickedBy b ch)) channels ⌝ }
 {
     let mut next = channels;
     for k in 0..16 {
         let ch = next[k];
-        let after = review::save(due, tick_one(b, k, ch));
+        let after = review::save(due, tick_one(b, ch));
         next[k] = after;
     }
     next

@@ -249,7 +249,7 @@ abbrev pub tick-begun : Parts.Begun shared service
 tick-begun = record {
   D = Begun;
   name = Bg.struct .name;
-  more = tcons tyBool (tcons (tyInt w16) (tcons (tyInt w16) tnil));
+  more = tcons tyBool (tcons (tyInt w16) tnil);
   written = Bg.the-row .written;
   reaches = Bg.the-row .reaches;
   own = Bg.the-row .own;
@@ -257,7 +257,7 @@ tick-begun = record {
   first = λ d. d .shared;
   second = λ d. d .service;
   count = λ d. d .count;
-  rest = λ d. vcons (vbool (d .«ran_out»)) (vcons (vint w16 (d .levels)) (vcons (vint w16 (d .closed)) vnil));
+  rest = λ d. vcons (vbool (d .«ran_out»)) (vcons (vint w16 (d .levels)) vnil);
   tells = Bg′.lowers .val-is;
   typed = λ 𝓤 H A W x v p. LL.lawful Bg.the-type Bg′.the-laws 𝓤 H A W .typed x _ p .0;
   pure = λ x vs. Bg′.the-field-plain (Bg.the-type .to x) vs;

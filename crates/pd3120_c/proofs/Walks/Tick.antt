@@ -1,7 +1,7 @@
 -- The walk of an exported call that makes a module's parts and every item anew in place. A function of the shape
 --     pub extern "C" fn f(m: &mut S) {
 --         let begun = begin(*m); m.first = begun.first; m.second = begun.second; m.last = follow(begun, m.last);
---         let mut k = 0; while k < count { m.items[k] = turn(begun, k, m.items[k]); k += 1; }
+--         let mut k = 0; while k < count { m.items[k] = turn(begun, m.items[k]); k += 1; }
 --         k = 0; while k < begun.count { m.items[k] = keep(m.items[k]); k += 1; }
 --     }
 -- leaves Q, where its callees, of which only their contracts are known, give a `begun` of which P holds, of the last value d the value `e begun d`, and of an
@@ -116,7 +116,7 @@ module _ (X Y Z L : Plain) (S : Grouped X Y Z L) (B : Begun X Y) where
     abbrev pub exported : (S .D → S .D → Type 0) → Clauses 𝓤 outer
     exported Q = stating 𝓤 outer (λ κs a r e. Q (a .0 .now) (e .0 .now))
 
-    module _ (W : Given 𝓤 H A) (start follow key keeps : Name) (P : S .D → B .D → Type 0) (e : B .D → L .D → L .D) (g : B .D → ℕ → Z .D → Z .D)
+    module _ (W : Given 𝓤 H A) (start follow key keeps : Name) (P : S .D → B .D → Type 0) (e : B .D → L .D → L .D) (g : B .D → Z .D → Z .D)
         (f : Z .D → Z .D) (Q : S .D → S .D → Type 0) where
       -- the module that is left
       abbrev pub left-by : S .D → B .D → S .D

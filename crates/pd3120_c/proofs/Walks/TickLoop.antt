@@ -1,7 +1,7 @@
 -- The first loop of the walk of `Tick.antt`, and what comes after it:
---     while k < count { m.items[k] = turn(begun, k, m.items[k]); k += 1; }
+--     while k < count { m.items[k] = turn(begun, m.items[k]); k += 1; }
 --     k = 0; ..
--- of a module that has the parts of `begun`, the items cs₀ and the last value d, and whose borrow is open. Its callee gives of item c at place k the item `g begun k c`. The
+-- of a module that has the parts of `begun`, the items cs₀ and the last value d, and whose borrow is open. Its callee gives of item c the item `g begun c`. The
 -- second loop and what comes after it are in `TickSave.antt`.
 -- Assumes nothing.
 use mathlib.Core.Path.{_≡_, refl, sym, subst}
@@ -40,7 +40,6 @@ use denote.Triple.Clauses.{Clauses, Ended, closing, ensured, lasts}
 use Rattle.pd3120_c.proofs.Walks.Plain.{Plain, row, vals, makes, value, related, lands, keeping, stating}
 use Rattle.pd3120_c.proofs.Walks.Grouped.{moved, laid, parts, Grouped, rows, Good, good-set, item-is, item-val, item-typed}
 use Rattle.pd3120_c.proofs.Walks.Parts.{Begun, begun}
-use Rattle.pd3120_c.proofs.Walks.Types.{count}
 use Rattle.pd3120_c.proofs.Walks.Turns.{turned, here, there, one-more, loops}
 use Rattle.pd3120_c.proofs.Walks.Element.{item}
 use Rattle.pd3120_c.proofs.Walks.TickSave.{ref, turn as again, rest, env, dying, Called as Kept, left-with, loop-walk as save-walk}
@@ -54,7 +53,7 @@ module _ (X Y Z L : Plain) (S : Grouped X Y Z L) (B : Begun X Y) where
 
   -- the callee
   abbrev pub inner : Ended
-  inner = keeping 0 (plain (λ _. row B′) ∷ plain (λ _. row count) ∷ plain (λ _. row Z) ∷ []) (plain (λ _. row Z))
+  inner = keeping 0 (plain (λ _. row B′) ∷ plain (λ _. row Z) ∷ []) (plain (λ _. row Z))
 
   abbrev pub turn : Name → Code
   turn key =
@@ -64,7 +63,7 @@ module _ (X Y Z L : Plain) (S : Grouped X Y Z L) (B : Begun X Y) where
       (seq (assign (place 10 []) (addrOf (place 1 (deref (S′ .mir) ∷ field 2 ∷ []))))
       (seq (assign (place 11 []) (op2 offset (copy (place 10 [])) (copy (place 9 []))))
       (seq (assign (place 12 []) (rvOpd (copy (place 11 (deref (Z .mir) ∷ [])))))
-      (seq (call key (copy (place 2 []) ∷ copy (place 3 []) ∷ copy (place 12 []) ∷ []) (place 8 []))
+      (seq (call key (copy (place 2 []) ∷ copy (place 12 []) ∷ []) (place 8 []))
       (seq (assign (place 13 []) (op2 (mul unsigned) (copy (place 3 [])) (int w64 (size (Z .mir)))))
       (seq (assign (place 14 []) (addrOf (place 1 (deref (S′ .mir) ∷ field 2 ∷ []))))
       (seq (assign (place 15 []) (op2 offset (copy (place 14 [])) (copy (place 13 []))))
@@ -76,17 +75,17 @@ module _ (X Y Z L : Plain) (S : Grouped X Y Z L) (B : Begun X Y) where
 
   module _ {M : Type 1} (𝓤 : URA M) (H : Heap 𝓤) (A : Atoms 𝓤) where
     -- what the callee ensures
-    module _ (g : B .D → ℕ → Z .D → Z .D) where
+    module _ (g : B .D → Z .D → Z .D) where
       abbrev called : Clauses 𝓤 inner
-      called = stating 𝓤 inner (λ κs a r e. r ≡ g (a .0) (a .1 .0) (a .1 .1 .0))
+      called = stating 𝓤 inner (λ κs a r e. r ≡ g (a .0) (a .1 .0))
 
       abbrev pub Called : Contract 𝓤
       Called = tripleOf 𝓤 H A (inner .signature) (closing 𝓤 H A inner called)
 
-    module _ (W : Given 𝓤 H A) (key keeps : Name) (g : B .D → ℕ → Z .D → Z .D) (f : Z .D → Z .D) where
+    module _ (W : Given 𝓤 H A) (key keeps : Name) (g : B .D → Z .D → Z .D) (f : Z .D → Z .D) where
       -- the module that is left
       abbrev pub left-through : B .D → List (Z .D) → L .D → S .D
-      left-through r cs₀ d = left-with X Y Z L S B 𝓤 H A W keeps f r (turned (g r) (S .none) (S .count) cs₀) d
+      left-through r cs₀ d = left-with X Y Z L S B 𝓤 H A W keeps f r (turned (λ _. g r) (S .none) (S .count) cs₀) d
 
       module _ (κ : Lft) (q : Share) (b o : ℕ) (γ : GName) (h : S .D) (Post : Val → SProp 𝓤)
           (r : B .D) (r-is : Is (row B′) r (vals B′ r)) (few : B .count r ≤ S .count) (cs₀ : List (Z .D)) (d : L .D) (d-is : Is (row L) d (vals L d)) where
@@ -144,22 +143,18 @@ module _ (X Y Z L : Plain) (S : Grouped X Y Z L) (B : Begun X Y) where
             next-fits : k + 1 < 2 ^ 64
             next-fits = let m : S .count < 2 ^ 64 = ltb→lt (S .count) (2 ^ 64) (S .few) in omega (arith, l, m)
 
-            k-fits : k < 2 ^ 64
-            k-fits = omega (arith, next-fits)
-
-            said : (z : Z .D) → ent 𝓤 (ensured 𝓤 H A inner (called g) tt (r, (k, (c, tt))) tt z) (fact 𝓤 (z ≡ g r k c))
-            said z = exE 𝓤 _ (λ ws. snd∗ 𝓤 (sem 𝓤 H A (lasts inner tt (r, (k, (c, tt))) ws)) (fact 𝓤 (z ≡ g r k c)))
+            said : (z : Z .D) → ent 𝓤 (ensured 𝓤 H A inner (called g) tt (r, (c, tt)) tt z) (fact 𝓤 (z ≡ g r c))
+            said z = exE 𝓤 _ (λ ws. snd∗ 𝓤 (sem 𝓤 H A (lasts inner tt (r, (c, tt)) ws)) (fact 𝓤 (z ≡ g r c)))
 
             abbrev to-call : Called g .Ghost
-            to-call = ((tt, tt, tt, (r, (k, (c, tt))), (vals B′ r, (vals count k, (vals Z c, tt)))), tt)
+            to-call = ((tt, tt, tt, (r, (c, tt)), (vals B′ r, (vals Z c, tt))), tt)
 
             goes-call : ent 𝓤 (emp 𝓤) (Called g .pre to-call)
             goes-call =
                 qed W [] ∵ nothing ! $ owned ! (row Z) (Is (row Z)) (makes Z 𝓤 H A) c _ (item-is Z (S .count) cs good (S .none) k l) $ fjoin ! $
-                owned ! (row count) (Is (row count)) (makes count 𝓤 H A) k _ (refl, k-fits) $ fjoin ! $
                 owned ! (row B′) (Is (row B′)) (makes B′ 𝓤 H A) r _ r-is $ fjoin ! $ nothing ! $ join ! $ frame ! $ done !
 
-            more : (N : SProp 𝓤) → (Items (set cs k (g r k c)) → ent 𝓤 (⋆ 𝓤 H A (At (suc k) (set cs k (g r k c)))) N)
+            more : (N : SProp 𝓤) → (Items (set cs k (g r c)) → ent 𝓤 (⋆ 𝓤 H A (At (suc k) (set cs k (g r c)))) N)
                 → ent 𝓤 (⋆ 𝓤 H A (At k cs)) (Wp 𝓤 H C Λ En (turn key) (afterTurn 𝓤 H N Left))
             unfolding afterTurn
             more N n =
@@ -178,10 +173,10 @@ module _ (X Y Z L : Plain) (S : Grouped X Y Z L) (B : Begun X Y) where
                 rewrite ! 7 (λ (u : Val). ‵ (fat fullShare (Z .mir) l₁₂ 0 u)) (item-val Z (S .count) cs good (S .none) k l) refl $
                 use0 W (raw (Called g .pre to-call)) goes-call $
                 calls-at ! (fmOf 𝓤 H (W .laws) 𝓣) (Called g) known to-call (and-then ! (load ! (from ! (stop !)) (look ! 13 refl))
-                (and-then ! (load ! (from ! (stop !)) (look ! 2 refl)) (and-then ! (load ! (from ! (stop !)) (look ! 8 refl)) (no-more !)))) (λ w.
-                use1 W (later (some (λ (z : Z .D). (‵ ftrue ⊛ ‵ (Z .own z (w ∷ []))) ⊛ raw (ensured 𝓤 H A inner (called g) tt (r, (k, (c, tt))) tt z))))
+                (and-then ! (load ! (from ! (stop !)) (look ! 8 refl)) (no-more !))) (λ w.
+                use1 W (later (some (λ (z : Z .D). (‵ ftrue ⊛ ‵ (Z .own z (w ∷ []))) ⊛ raw (ensured 𝓤 H A inner (called g) tt (r, (c, tt)) tt z))))
                 (id⊢ 𝓤 _) $
-                await ! tt $ pick ! (λ z. split ! $ move ! (1 ∷ []) $ use1 W (raw (fact 𝓤 (z ≡ g r k c))) (said z) $ heard ! (z ≡ g r k c) (λ e.
+                await ! tt $ pick ! (λ z. split ! $ move ! (1 ∷ []) $ use1 W (raw (fact 𝓤 (z ≡ g r c))) (said z) $ heard ! (z ≡ g r c) (λ e.
                 split ! $ move ! (1 ∷ []) $ peeks ! (row Z) (Is (row Z)) (shows 𝓤 H A (row Z)) z (w ∷ []) (λ isz.
                 land ! (from ! (stop !)) (init ! 5 refl (lands Z z w isz 𝓤 H A W)) $
                 rewrite ! 5 (λ (u : Val). ‵ (fat fullShare (Z .mir) l₈ 0 u)) (value Z z w isz) refl $ drop ! $ drop ! $
@@ -202,7 +197,7 @@ module _ (X Y Z L : Plain) (S : Grouped X Y Z L) (B : Begun X Y) where
                 by ! (n (subst (λ (y : Z .D). Items (set cs k y)) e (good-set Z (S .count) cs k z good (related Z z w isz))))))))
 
           -- the turn that leaves the loop, up to the second loop
-          ends : (cs : List (Z .D)) → Items cs → cs ≡ turned (g r) (S .none) (S .count) cs₀ → (N : SProp 𝓤)
+          ends : (cs : List (Z .D)) → Items cs → cs ≡ turned (λ _. g r) (S .none) (S .count) cs₀ → (N : SProp 𝓤)
               → ent 𝓤 (⋆ 𝓤 H A (At (S .count) cs)) (Wp 𝓤 H C Λ En (turn key) (afterTurn 𝓤 H N Left))
           unfolding afterTurn
           ends cs good all N =
@@ -219,4 +214,4 @@ module _ (X Y Z L : Plain) (S : Grouped X Y Z L) (B : Begun X Y) where
               l₀ l₁ l₂ l₃ l₄ l₅ l₆ l₇ l₈ l₉ l₁₀ l₁₁ l₁₂ l₁₃ l₁₄ l₁₅ l₁₆ l₁₇ l₁₈ l₁₉ l₂₀ l₂₁ l₂₂ l₂₃ l₂₄ good)
 
           pub loop-walk : Items cs₀ → ent 𝓤 (⋆ 𝓤 H A (At 0 cs₀)) (Wp 𝓤 H C Λ En (loop (turn key)) Left)
-          loop-walk = loops 𝓤 H A W 𝓣 En (turn key) Left At Items (g r) (S .none) (S .count) cs₀ (λ k cs l good. more k cs l good) ends
+          loop-walk = loops 𝓤 H A W 𝓣 En (turn key) Left At Items (λ _. g r) (S .none) (S .count) cs₀ (λ k cs l good. more k cs l good) ends

@@ -4,10 +4,10 @@ use denote.Triple.Spec.{tripleOf}
 use denote.Triple.Table.{entered, cited}
 use mathlib.Core.Path.{_≡_, sym, ap, _∙_, subst}
 use mathlib.Core.Bool.{true}
-use mathlib.Core.List.{List}
+use mathlib.Core.List.{List, map}
 use Prim.Native.Nat.{ℕ, _≤_}
 use native.Mathlib.Omega.{arith}
-use lib.ListN.{length}
+use lib.ListN.{length, length-map}
 use Rattle.model.specs.declared.Channel.{Channel}
 use Rattle.model.specs.declared.DataChannel.{DataChannel}
 use Rattle.model.specs.declared.Module.{Module}
@@ -18,7 +18,7 @@ use Rattle.ticks.specs.declared.Begun.{Begun}
 use Rattle.ticks.specs.Begun.{begunOf, tickedBy, dataTickedBy}
 use Rattle.ticks.proofs.Whole.{whole}
 use Rattle.pd3120_c.specs.Codes.{Ticked}
-use Rattle.pd3120_c.proofs.Laws.Turns.{saved-turned}
+use Rattle.pd3120_c.proofs.Laws.Turns.{all-turned, saved-turned}
 use Rattle.pd3120_c.proofs.Walks.Box.{shared, service, channel, data-channel, box, tick-begun}
 use Rattle.pd3120_c.proofs.Walks.Tick.{Started, Followed, meets}
 use Rattle.pd3120_c.proofs.Walks.TickLoop.{Called}
@@ -54,7 +54,7 @@ few m b e = rw e (either (λ (n : ℕ). n ≤ 16) (saveDue (m .shared)) (omega a
 
 -- the channels after both loops
 abbrev through : Begun → List Channel → List Channel
-through b cs = turned (λ k. saved true) (box .none) (b .count) (turned (tickedBy b) (box .none) 16 cs)
+through b cs = turned (λ k. saved true) (box .none) (b .count) (turned (λ k. tickedBy b) (box .none) 16 cs)
 
 -- the module after both loops, of a box that had the data channel d
 abbrev end : Begun → Module → Module
@@ -65,7 +65,11 @@ unfolding step begunOf
 whole-through m l =
     let b = begunOf m in
     let cs = m .channels in
-    ap (λ (ds : List Channel). left b ds (dataTickedBy b (m .«data_channel»))) (saved-turned (saveDue (m .shared)) (tickedBy b) cs l) ∙ whole m l
+    let n : length (map (tickedBy b) cs) ≡ 16 = rw length-map l in
+    ap (λ (ds : List Channel). left b ds (dataTickedBy b (m .«data_channel»)))
+    (ap (λ (ds : List Channel). turned (λ k. saved true) (box .none) (b .count) ds) (all-turned (tickedBy b) cs l)
+    ∙ saved-turned (saveDue (m .shared)) (tickedBy b) cs n)
+    ∙ whole m l
 
 follows : (m : Module) (b : Begun) → length (m .channels) ≡ 16 → Begins m b → Ticked m (end b m)
 follows m b l e = subst (λ (x : Begun). Ticked m (end x m)) (sym e) (whole-through m l)

@@ -16,6 +16,7 @@ use Rattle.model.specs.declared.Channel.{Channel}
 use Rattle.model.specs.declared.Shared.{Shared}
 use Rattle.model.specs.declared.Function.the-variants.{Input, Output, OneShot, DutyCycle, Timer}
 use Rattle.model.specs.State.{channelWith, outFlag, inFlag, control, outTimer, fbTimer, outPreset, fbPreset}
+use Rattle.model.specs.Hours.{closed}
 use Rattle.model.specs.Settings.{functions, silencesOverload}
 use Rattle.model.specs.Channel.{changed, tripped}
 use Rattle.model.specs.Tick as Tick
@@ -76,6 +77,10 @@ module _ (ch : Channel) where
   unfolding Tick.shutDown
   left-shutDown out = either Left out refl refl
 
+  left-offWhileClosed : (s : Shared) → Left (Tick.offWhileClosed s ch)
+  unfolding Tick.offWhileClosed
+  left-offWhileClosed s = left-shutDown (closed (s .clock) (ch .timetable))
+
   left-timersRun : Left (Tick.timersRun ch)
   unfolding Tick.timersRun
   left-timersRun = refl
@@ -132,12 +137,14 @@ left-guarded : (s : Shared) (ch : Channel) → rest (Tick.guarded s ch) ≡ rest
 unfolding Tick.guarded
 left-guarded s ch = either (Left ch) (Tick.overloaded s ch) (left-changed (tripped ch) (outFlag ch) ∙ left-tripped ch) refl
 
-left-driven : (s : Shared) (out : Bool) (ch : Channel) → rest (Tick.drivenFrom s ch (Tick.shutDown out ch)) ≡ rest ch
+left-driven : (s : Shared) (out : Bool) (ch : Channel) → rest (Tick.driven s out ch) ≡ rest ch
+unfolding Tick.driven
 left-driven s out ch =
-    let off = Tick.shutDown out ch in
+    let off = Tick.offWhileClosed s (Tick.shutDown out ch) in
     let run = Tick.timersRun off in
     let x = Tick.special (functions run) run in
-    left-guarded s (changed (outFlag ch) x) ∙ left-changed x (outFlag ch) ∙ left-special (functions run) run ∙ left-timersRun off ∙ left-shutDown ch out
+    left-guarded s (changed (outFlag ch) x) ∙ left-changed x (outFlag ch) ∙ left-special (functions run) run ∙ left-timersRun off
+    ∙ left-offWhileClosed (Tick.shutDown out ch) s ∙ left-shutDown ch out
 
 left-looked : (s : Shared) (levels : List Bool) (ch : Channel) → rest (Tick.looked s levels ch) ≡ rest ch
 unfolding Tick.looked
@@ -145,10 +152,10 @@ left-looked s levels ch = either (Left ch) (Tick.lookDue s) refl refl
 
 -- what is put back is all that they changed
 pub put-back-ticked : (s : Shared) (out : Bool) (levels : List Bool) (ch : Channel)
-    → putBack (Tick.judged s (Tick.operated (Tick.looked s levels (Tick.drivenFrom s ch (Tick.shutDown out ch))))) ch
-    ≡ Tick.judged s (Tick.operated (Tick.looked s levels (Tick.drivenFrom s ch (Tick.shutDown out ch))))
+    → putBack (Tick.judged s (Tick.operated (Tick.looked s levels (Tick.driven s out ch)))) ch
+    ≡ Tick.judged s (Tick.operated (Tick.looked s levels (Tick.driven s out ch)))
 put-back-ticked s out levels ch =
-    let x = Tick.drivenFrom s ch (Tick.shutDown out ch) in
+    let x = Tick.driven s out ch in
     let y = Tick.looked s levels x in
     let z = Tick.operated y in
     put-back (Tick.judged s z) ch (left-judged z s ∙ left-operated y ∙ left-looked s levels x ∙ left-driven s out ch)

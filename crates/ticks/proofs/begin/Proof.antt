@@ -22,19 +22,15 @@ count-if-requires c κs = search needs
 levels-looked-at-requires : tie.Need-levels-looked-at-requires
 levels-looked-at-requires c κs = search needs
 
-closed-channels-requires : tie.Need-closed-channels-requires
-closed-channels-requires c κs = search needs
-
 returns : tie.Need-returns
 unfolding begunOf
 returns c = simp (
-  c .closed-channels .ensures,
-  c .before .levels-looked-at .ensures,
-  c .before .before .count-if .ensures,
-  c .before .before .before .save-due .ensures,
-  c .before .before .before .before .tick-service .ensures,
-  c .before .before .before .before .before .before .tick-shared .ensures,
-  c .before .before .before .before .before .before .before .runs-out .ensures,
+  c .levels-looked-at .ensures,
+  c .before .count-if .ensures,
+  c .before .before .save-due .ensures,
+  c .before .before .before .tick-service .ensures,
+  c .before .before .before .before .tick-shared .ensures,
+  c .before .before .before .before .before .runs-out .ensures,
 )
 
 pub begin-spec : {M : Type 1} → statement M
@@ -47,5 +43,4 @@ begin-spec =
     save-due-requires
     count-if-requires
     levels-looked-at-requires
-    closed-channels-requires
     returns)

@@ -1,5 +1,5 @@
 -- `tick_channels` meets its contract. Assumes nothing.
-use mathlib.Core.Path.{_≡_, refl, sym, _∙_, ap}
+use mathlib.Core.Path.{_≡_, refl, sym, _∙_}
 use mathlib.Core.Bool.{true}
 use Prim.Native.Nat.{ℕ, suc, _-_, _≤_, _<_}
 use native.Mathlib.Numerals.{add-one}
@@ -8,14 +8,14 @@ use lib.ListN.{length}
 use borrow.Author.Needs.{needs}
 use borrow.Author.Tests.{lt-ltb, le-ltb}
 use Rattle.model.specs.declared.Channel.{Channel}
-use Rattle.model.proofs.Laws.Filled.{filled, none, one-more, untouched, all-each, below, up}
+use Rattle.model.proofs.Laws.Filled.{filled, none, one-more, untouched, all, below, up}
 use Rattle.model.specs.Tick.{saved}
 use Rattle.ticks.specs.Begun.{tickedBy}
 use Rattle.ticks.proofs.tick_channels.Statement.{statement}
 use Rattle.ticks.proofs.tick_channels.Tie as tie
 
 abbrev Inv-loop : tie.InvT-loop
-Inv-loop b due next₀ k₀ next k = (k ≤ 16) × (next ≡ filled (below k) (λ (j : ℕ) (ch : Channel). saved due (tickedBy b j ch)) next₀ next₀)
+Inv-loop b due next₀ k₀ next k = (k ≤ 16) × (next ≡ filled (below k) (λ (j : ℕ) (ch : Channel). saved due (tickedBy b ch)) next₀ next₀)
 
 abbrev μ-loop : tie.MeasureT-loop
 μ-loop b due next₀ k₀ next k = 16 - k
@@ -23,7 +23,7 @@ abbrev μ-loop : tie.MeasureT-loop
 loop-holds : tie.Need-loop-holds Inv-loop μ-loop
 loop-holds c =
     let a = c .args in
-    let g : ℕ → Channel → Channel = λ j ch. saved (a .due) (tickedBy (a .b) j ch) in
+    let g : ℕ → Channel → Channel = λ j ch. saved (a .due) (tickedBy (a .b) ch) in
     (search needs, sym (none g (below 0) (a .channels) (a .channels) (λ j l. le-ltb j 0 (omega arith))))
 
 mul-ch : tie.Need-mul-ch Inv-loop μ-loop
@@ -57,7 +57,7 @@ loop-again c =
     let l = c .before .before .before .before .loop in
     let k = l .k in
     let xs = a .channels in
-    let g : ℕ → Channel → Channel = λ j ch. saved (a .due) (tickedBy (a .b) j ch) in
+    let g : ℕ → Channel → Channel = λ j ch. saved (a .due) (tickedBy (a .b) ch) in
     let n : length xs ≡ 16 = start .good .1 .1 .0 .1 .0 .1 in
     let h : k < length xs = omega arith in
     let t : below (suc k) k ≡ true = lt-ltb k (suc k) (omega arith) in (
@@ -72,8 +72,7 @@ returns c =
     let xs = a .channels in
     let e : c .before .loop .k ≡ 16 = omega arith in
     let n : length xs ≡ 16 = search needs in
-    let g : ℕ → Channel → Channel = λ j ch. saved (a .due) (tickedBy (a .b) j ch) in
-    c .before .loop .inv .1 ∙ rw e (all-each g g (below 16) 0 xs xs refl (λ j l. lt-ltb j 16 (omega arith)) (λ j. ap g (omega arith)))
+    c .before .loop .inv .1 ∙ rw e (all (λ (ch : Channel). saved (a .due) (tickedBy (a .b) ch)) (below 16) xs xs refl (λ j l. lt-ltb j 16 (omega arith)))
 
 pub tick-channels-spec : {M : Type 1} → statement M
 tick-channels-spec =

@@ -5,9 +5,6 @@ use Rattle.ticks.proofs.Laws.Unchanged.{put-back-ticked}
 use Rattle.ticks.proofs.tick_one.Statement.{statement}
 use Rattle.ticks.proofs.tick_one.Tie as tie
 
-bit-of-requires : tie.Need-bit-of-requires
-bit-of-requires c κs = search needs
-
 tick-channel-requires : tie.Need-tick-channel-requires
 tick-channel-requires c κs = search needs
 
@@ -16,7 +13,7 @@ put-back-requires c κs = search needs
 
 returns : tie.Need-returns
 unfolding tickedBy
-returns c = simp (c .put-back .ensures, c .before .tick-channel .ensures, put-back-ticked, c .before .before .before .bit-of .ensures)
+returns c = simp (c .put-back .ensures, c .before .tick-channel .ensures, put-back-ticked)
 
 pub tick-one-spec : {M : Type 1} → statement M
-tick-one-spec = tie.close (tie.spec bit-of-requires tick-channel-requires put-back-requires returns)
+tick-one-spec = tie.close (tie.spec tick-channel-requires put-back-requires returns)
