@@ -303,7 +303,7 @@ uint32_t pd3120_set_minute(pd3120_module *module, uint16_t minute);
  */
 uint32_t pd3120_set_windows(pd3120_module *module, uint8_t channel, const uint32_t *windows, size_t count);
 
-/* 1/32 s passes. Changes the module. */
+/* 1/32 s passes. The channels are taken from 16 to 1, which nothing shows afterwards. Changes the module. */
 void pd3120_tick(pd3120_module *module);
 
 /* Whether a channel drives its terminal; false outside 1 to 16. Changes nothing. */

@@ -2,7 +2,7 @@
 //! [`charge`](mod@charge) for water.
 //!
 //! The box is the Rattle library of this repository: every call does what
-//! document 01 and Changes 1 to 3, 5 and 6 of document 02 say, for any box, call
+//! document 01 and Changes 1 to 3 and 5 to 7 of document 02 say, for any box, call
 //! and buffer, and this is proved. [`Pd3120`] reaches it through its C boundary.
 //! That this package declares the boundary as it is, no proof says; its tests and
 //! `tests/rust` compare it. The same holds of the charge and Change 4.
@@ -284,7 +284,8 @@ impl Pd3120 {
         code::looked_up(self.module.look_up(table, x))
     }
 
-    /// A tick: 1/32 s passes.
+    /// A tick: 1/32 s passes. The channels are taken from 16 to 1, which nothing
+    /// shows afterwards.
     #[inline]
     pub fn tick(&mut self) {
         self.module.tick();

@@ -154,8 +154,8 @@ pub extern "C" fn pd3120_look_up(m: &Module, table: u8, x: f32) -> u64
     calls::look_up(m.data_channel, table, x)
 }
 
-// The save is a loop of its own, so that the ticks without it, all but one in ten hours, do not touch
-// the kept values.
+// From channel 16 to 1, since the terminal board latches 16 first. The save is a loop of its own, so
+// that the ticks without it, all but one in ten hours, do not touch the kept values.
 #[no_mangle]
 pub extern "C" fn pd3120_tick(m: &mut Module)
     ensures { λ _. ⌜ Ticked (now (m .entry)) (now (m .exit)) ⌝ }
@@ -164,15 +164,15 @@ pub extern "C" fn pd3120_tick(m: &mut Module)
     m.shared = begun.shared;
     m.service = begun.service;
     m.data_channel = ticks::tick_data(begun, m.data_channel);
-    let mut k = 0;
-    while k < 16 {
+    let mut k = 16;
+    while 0 < k {
+        k -= 1;
         m.channels[k] = ticks::tick_one(begun, m.channels[k]);
-        k += 1;
     }
-    k = 0;
-    while k < begun.count {
+    k = begun.count;
+    while 0 < k {
+        k -= 1;
         m.channels[k] = review::keep(m.channels[k]);
-        k += 1;
     }
 }
 

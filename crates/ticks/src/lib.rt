@@ -194,12 +194,14 @@ pub fn tick_data(b: Begun, d: DataChannel) -> DataChannel
     next
 }
 
-// From channel 1 to 16, each with step 7.
+// From channel 16 to 1, since the terminal board latches 16 first, each with step 7.
 fn tick_channels(b: Begun, due: bool, channels: [Channel; 16]) -> [Channel; 16]
     ensures { λ r. ⌜ r ≡ map (λ ch. saved due (tickedBy b ch)) channels ⌝ }
 {
     let mut next = channels;
-    for k in 0..16 {
+    let mut k: usize = 16;
+    while 0 < k {
+        k -= 1;
         let ch = next[k];
         let after = review::save(due, tick_one(b, ch));
         next[k] = after;

@@ -1,15 +1,13 @@
 -- A loop that works on the places of a list one by one, in any order: what stands in the list when some of the places are done, what the
--- next place adds, and that all of them make the whole. Assumes nothing.
-use mathlib.Core.Path.{_≡_, refl, sym, ap, ap₂, _∙_}
-use mathlib.Core.Bool.{Bool, true, false, cond}
+-- next turn adds, and that all of them make the whole; and the two orders, from the first place up and from the last down. Assumes nothing.
+use mathlib.Core.Path.{_≡_, refl, sym, ap, ap₂, subst, _∙_}
+use mathlib.Core.Bool.{Bool, true, false, cond, _&&_}
 use mathlib.Core.List.{List, [], _∷_, map}
-use Prim.Native.Nat.{ℕ, zero, suc, _+_, _<_}
+use Prim.Native.Nat.{ℕ, zero, suc, _-_, _<_}
 use native.Mathlib.Nat.{le-of-suc-le-suc, not-suc-le-zero, zero-lt-suc}
 use native.Mathlib.Omega.{arith}
 use lib.Dec.{ltb, leb}
 use lib.ListN.{length, getD, set}
-use Rattle.model.specs.declared.Channel.{Channel}
-use Rattle.model.specs.Writes.{each}
 use borrow.Author.Tests.{ltb-true, ltb-false, leb-true, leb-false, lt-ltb, le-ltb, le-leb, lt-leb}
 
 -- ys, with g of the place and of its element of xs where the place is done
@@ -19,7 +17,7 @@ filled done g (x ∷ xs) [] = []
 filled done g (x ∷ xs) (y ∷ ys) = cond (done 0) (g 0 x) y ∷ filled (λ (j : ℕ). done (suc j)) (λ (j : ℕ). g (suc j)) xs ys
 
 -- it depends on which places are done, and on nothing else
-alike : {A B : Type 0} (g : ℕ → A → B) (p q : ℕ → Bool) (xs : List A) (ys : List B) → ((j : ℕ) → p j ≡ q j) → filled p g xs ys ≡ filled q g xs ys
+pub alike : {A B : Type 0} (g : ℕ → A → B) (p q : ℕ → Bool) (xs : List A) (ys : List B) → ((j : ℕ) → p j ≡ q j) → filled p g xs ys ≡ filled q g xs ys
 unfolding filled
 alike g p q [] ys e = refl
 alike g p q (x ∷ xs) [] e = refl
@@ -35,36 +33,45 @@ none {B = B} g p (x ∷ xs) (y ∷ ys) e =
     ap₂ (λ (b : Bool) (r : List B). cond b (g 0 x) y ∷ r) (e 0 (zero-lt-suc _))
     (none (λ (j : ℕ). g (suc j)) (λ (j : ℕ). p (suc j)) xs ys (λ j l. e (suc j) (omega arith)))
 
--- the place n is done too, after those of p
+-- a turn of a loop: it comes to the place n, where the places of p are done before it and those of q after it
+pub record Turn (p q : ℕ → Bool) (n : ℕ) : Type 0 where
+  pub not-yet : p n ≡ false
+  pub now : q n ≡ true
+  pub others : (j : ℕ) → (j ≡ n → ⊥) → p j ≡ q j
+
+-- the same turn, over the list without its first element
+past-first : (p q : ℕ → Bool) (n : ℕ) → Turn p q (suc n) → Turn (λ (j : ℕ). p (suc j)) (λ (j : ℕ). q (suc j)) n
+past-first p q n t = record { not-yet = t .not-yet; now = t .now; others = λ j f. t .others (suc j) (λ z. f (omega (arith, z))) }
+
+-- it makes one place more done
 pub one-more : {A B : Type 0} (g : ℕ → A → B) (p q : ℕ → Bool) (n : ℕ) (xs : List A) (ys : List B) (d : A) → n < length xs → n < length ys
-    → q n ≡ true → ((j : ℕ) → (j ≡ n → ⊥) → p j ≡ q j) → set (filled p g xs ys) n (g n (getD xs n d)) ≡ filled q g xs ys
+    → Turn p q n → set (filled p g xs ys) n (g n (getD xs n d)) ≡ filled q g xs ys
 unfolding filled
-one-more g p q n [] ys d h l t e = absurd (not-suc-le-zero h)
-one-more g p q n (x ∷ xs) [] d h l t e = absurd (not-suc-le-zero l)
-one-more {B = B} g p q zero (x ∷ xs) (y ∷ ys) d h l t e =
-    ap₂ (λ (b : Bool) (r : List B). cond b (g 0 x) y ∷ r) (sym t) (alike (λ (j : ℕ). g (suc j)) (λ (j : ℕ). p (suc j)) (λ (j : ℕ). q (suc j)) xs ys
-    (λ j. e (suc j) (λ z. omega (arith, z))))
-one-more {B = B} g p q (suc n) (x ∷ xs) (y ∷ ys) d h l t e =
-    ap₂ (λ (b : Bool) (r : List B). cond b (g 0 x) y ∷ r) (e 0 (λ z. omega (arith, z)))
-    (one-more (λ (j : ℕ). g (suc j)) (λ (j : ℕ). p (suc j)) (λ (j : ℕ). q (suc j)) n xs ys d (le-of-suc-le-suc h) (le-of-suc-le-suc l) t
-    (λ j f. e (suc j) (λ z. f (omega (arith, z)))))
+one-more g p q n [] ys d h l t = absurd (not-suc-le-zero h)
+one-more g p q n (x ∷ xs) [] d h l t = absurd (not-suc-le-zero l)
+one-more {B = B} g p q zero (x ∷ xs) (y ∷ ys) d h l t =
+    ap₂ (λ (b : Bool) (r : List B). cond b (g 0 x) y ∷ r) (sym (t .now)) (alike (λ (j : ℕ). g (suc j)) (λ (j : ℕ). p (suc j)) (λ (j : ℕ). q (suc j)) xs ys
+    (λ j. t .others (suc j) (λ z. omega (arith, z))))
+one-more {B = B} g p q (suc n) (x ∷ xs) (y ∷ ys) d h l t =
+    ap₂ (λ (b : Bool) (r : List B). cond b (g 0 x) y ∷ r) (t .others 0 (λ z. omega (arith, z)))
+    (one-more (λ (j : ℕ). g (suc j)) (λ (j : ℕ). p (suc j)) (λ (j : ℕ). q (suc j)) n xs ys d (le-of-suc-le-suc h) (le-of-suc-le-suc l) (past-first p q n t))
 
 -- a place that is not done is as it was
-pub untouched : {A B : Type 0} (g : ℕ → A → B) (p : ℕ → Bool) (n : ℕ) (xs : List A) (ys : List B) (d : B) → p n ≡ false → getD (filled p g xs ys) n d ≡ getD ys n d
+untouched : {A B : Type 0} (g : ℕ → A → B) (p : ℕ → Bool) (n : ℕ) (xs : List A) (ys : List B) (d : B) → p n ≡ false → getD (filled p g xs ys) n d ≡ getD ys n d
 unfolding filled
 untouched g p n [] ys d e = refl
 untouched g p n (x ∷ xs) [] d e = refl
 untouched g p zero (x ∷ xs) (y ∷ ys) d e = ap (λ (b : Bool). cond b (g 0 x) y) e
 untouched g p (suc n) (x ∷ xs) (y ∷ ys) d e = untouched (λ (j : ℕ). g (suc j)) (λ (j : ℕ). p (suc j)) n xs ys d e
 
-pub filled-length : {A B : Type 0} (g : ℕ → A → B) (p : ℕ → Bool) (xs : List A) (ys : List B) → length (filled p g xs ys) ≡ length ys
-unfolding filled
-filled-length g p [] ys = refl
-filled-length g p (x ∷ xs) [] = refl
-filled-length g p (x ∷ xs) (y ∷ ys) = ap suc (filled-length (λ (j : ℕ). g (suc j)) (λ (j : ℕ). p (suc j)) xs ys)
+-- a turn of a loop that works in place
+pub in-place : {A : Type 0} (g : ℕ → A → A) (p q : ℕ → Bool) (n : ℕ) (xs : List A) (d : A) → n < length xs → Turn p q n
+    → set (filled p g xs xs) n (g n (getD (filled p g xs xs) n d)) ≡ filled q g xs xs
+in-place {A} g p q n xs d h t =
+    ap (λ (y : A). set (filled p g xs xs) n (g n y)) (untouched g p n xs xs d (t .not-yet)) ∙ one-more g p q n xs xs d h h t
 
 -- with every place done it is f of each
-pub all : {A B : Type 0} (f : A → B) (p : ℕ → Bool) (xs : List A) (ys : List B) → length xs ≡ length ys → ((j : ℕ) → j < length xs → p j ≡ true)
+all : {A B : Type 0} (f : A → B) (p : ℕ → Bool) (xs : List A) (ys : List B) → length xs ≡ length ys → ((j : ℕ) → j < length xs → p j ≡ true)
     → filled p (λ (j : ℕ). f) xs ys ≡ map f xs
 unfolding filled
 all f p [] [] s e = refl
@@ -74,36 +81,75 @@ all {B = B} f p (x ∷ xs) (y ∷ ys) s e =
     ap₂ (λ (b : Bool) (r : List B). cond b (f x) y ∷ r) (e 0 (zero-lt-suc _))
     (all f (λ (j : ℕ). p (suc j)) xs ys (omega (arith, s)) (λ j l. e (suc j) (omega arith)))
 
--- ---- the two orders of a loop: from the first place up, the places below k are done; from the last down, those from k on
+-- ---- the two orders of a loop over the first n places: from the first up, the places below k are done; from the last down, those from k on, below n
 abbrev pub below : ℕ → ℕ → Bool
 below k j = ltb j k
 
-abbrev pub from : ℕ → ℕ → Bool
-from k j = leb k j
+abbrev pub from : ℕ → ℕ → ℕ → Bool
+from n k j = leb k j && ltb j n
 
-pub up : (k j : ℕ) → (j ≡ k → ⊥) → below k j ≡ below (suc k) j
-up k j n = go (below k j) refl
+pub up : (k : ℕ) → Turn (below k) (below (suc k)) k
+up k = record { not-yet = le-ltb k k (omega arith); now = lt-ltb k (suc k) (omega arith); others = λ j n. go j n (below k j) refl }
   where
-    go : (b : Bool) → below k j ≡ b → b ≡ below (suc k) j
-    go true e = let l = ltb-true j k e in sym (lt-ltb j (suc k) (omega arith))
-    go false e = let l = ltb-false j k e in sym (le-ltb j (suc k) (omega arith))
+    go : (j : ℕ) → (j ≡ k → ⊥) → (b : Bool) → below k j ≡ b → b ≡ below (suc k) j
+    go j n true e = let l = ltb-true j k e in sym (lt-ltb j (suc k) (omega arith))
+    go j n false e = let l = ltb-false j k e in sym (le-ltb j (suc k) (omega arith))
 
-pub down : (k j : ℕ) → (j ≡ k → ⊥) → from (suc k) j ≡ from k j
-down k j n = go (from (suc k) j) refl
+pub down : (n k : ℕ) → k < n → Turn (from n (suc k)) (from n k) k
+down n k h = record {
+  not-yet = ap (λ (b : Bool). b && ltb k n) (lt-leb (suc k) k (omega arith));
+  now = ap₂ _&&_ (le-leb k k (omega arith)) (lt-ltb k n h);
+  others = λ j f. ap (λ (b : Bool). b && ltb j n) (go j f (leb (suc k) j) refl);
+}
   where
-    go : (b : Bool) → from (suc k) j ≡ b → b ≡ from k j
-    go true e = let l = leb-true (suc k) j e in sym (le-leb k j (omega arith))
-    go false e = let l = leb-false (suc k) j e in sym (lt-leb k j (omega arith))
+    go : (j : ℕ) → (j ≡ k → ⊥) → (b : Bool) → leb (suc k) j ≡ b → b ≡ leb k j
+    go j f true e = let l = leb-true (suc k) j e in sym (le-leb k j (omega arith))
+    go j f false e = let l = leb-false (suc k) j e in sym (lt-leb k j (omega arith))
 
--- where what is done depends on the place, `each` names the whole
-pub all-each : (f g : ℕ → Channel → Channel) (p : ℕ → Bool) (i : ℕ) (xs ys : List Channel) → length xs ≡ length ys → ((j : ℕ) → j < length xs → p j ≡ true)
-    → ((j : ℕ) → g j ≡ f (i + j)) → filled p g xs ys ≡ each f i xs
-unfolding filled
-all-each f g p i [] [] s e q = refl
-all-each f g p i [] (y ∷ ys) s e q = absurd (omega (arith, s))
-all-each f g p i (x ∷ xs) [] s e q = absurd (omega (arith, s))
-all-each f g p i (x ∷ xs) (y ∷ ys) s e q =
-    let h : g 0 ≡ f i = q 0 ∙ ap f (omega arith) in
-    ap₂ (λ (c : Channel) (r : List Channel). c ∷ r) (ap (λ (b : Bool). cond b (g 0 x) y) (e 0 (zero-lt-suc _)) ∙ ap (λ (k : Channel → Channel). k x) h)
-    (all-each f (λ (j : ℕ). g (suc j)) (λ (j : ℕ). p (suc j)) (suc i) xs ys (omega (arith, s)) (λ j l. e (suc j) (omega arith))
-    (λ j. q (suc j) ∙ ap f (omega arith)))
+-- none is done at first, and in the end all
+pub below-none : (j : ℕ) → below 0 j ≡ false
+below-none j = le-ltb j 0 (omega arith)
+
+pub all-below : {A B : Type 0} (f : A → B) (n : ℕ) (xs : List A) (ys : List B) → length xs ≡ n → length ys ≡ n → filled (below n) (λ (j : ℕ). f) xs ys ≡ map f xs
+all-below f n xs ys e h = all f (below n) xs ys (e ∙ sym h) (λ j l. lt-ltb j n (omega (arith, l, e)))
+
+pub from-none : (n j : ℕ) → from n n j ≡ false
+from-none n j = go (ltb j n) refl
+  where
+    go : (b : Bool) → ltb j n ≡ b → from n n j ≡ false
+    go true e = let l = ltb-true j n e in ap (λ (b : Bool). b && ltb j n) (lt-leb n j (omega arith))
+    go false e = let l = ltb-false j n e in ap₂ _&&_ (le-leb n j (omega arith)) e
+
+pub from-all : (n j : ℕ) → from n 0 j ≡ below n j
+from-all n j = ap (λ (b : Bool). b && ltb j n) (le-leb 0 j (omega arith))
+
+-- an order: turn k comes to `place k`, where the places of `done k` are done; in the end those below n are, whatever the order
+pub record Order (n : ℕ) : Type 0 where
+  pub place : ℕ → ℕ
+  pub done : ℕ → ℕ → Bool
+  pub within : (k : ℕ) → k < n → place k < n
+  pub turn : (k : ℕ) → k < n → Turn (done k) (done (suc k)) (place k)
+  pub at-first : (j : ℕ) → done 0 j ≡ false
+  pub at-last : (j : ℕ) → done n j ≡ below n j
+
+abbrev pub upward : (n : ℕ) → Order n
+upward n = record {
+  place = λ k. k;
+  done = below;
+  within = λ k l. l;
+  turn = λ k l. up k;
+  at-first = below-none;
+  at-last = λ j. refl;
+}
+
+abbrev pub downward : (n : ℕ) → Order n
+downward n = record {
+  place = λ k. n - suc k;
+  done = λ k. from n (n - k);
+  within = λ k l. omega (arith, l);
+  turn = λ k l.
+      let e : suc (n - suc k) ≡ n - k = omega (arith, l) in
+      subst (λ (m : ℕ). Turn (from n m) (from n (n - suc k)) (n - suc k)) e (down n (n - suc k) (omega (arith, l)));
+  at-first = λ j. let e : n - 0 ≡ n = omega arith in ap (λ (m : ℕ). from n m j) e ∙ from-none n j;
+  at-last = λ j. let e : n - n ≡ 0 = omega arith in ap (λ (m : ℕ). from n m j) e ∙ from-all n j;
+}

@@ -13,17 +13,17 @@ use Rattle.model.specs.declared.DataChannel.{DataChannel}
 use Rattle.model.specs.declared.Module.{Module}
 use Rattle.model.specs.Calls.{step}
 use Rattle.model.specs.Tick.{saveDue, saved}
+use Rattle.model.proofs.Laws.Filled.{filled, below, all-below}
 use Rattle.model.proofs.Laws.Tests.{either}
 use Rattle.ticks.specs.declared.Begun.{Begun}
 use Rattle.ticks.specs.Begun.{begunOf, tickedBy, dataTickedBy}
 use Rattle.ticks.proofs.Whole.{whole}
 use Rattle.pd3120_c.specs.Codes.{Ticked}
-use Rattle.pd3120_c.proofs.Laws.Turns.{all-turned, saved-turned}
+use Rattle.pd3120_c.proofs.Laws.Turns.{saved-done}
 use Rattle.pd3120_c.proofs.Walks.Box.{shared, service, channel, data-channel, box, tick-begun}
 use Rattle.pd3120_c.proofs.Walks.Tick.{Started, Followed, meets}
 use Rattle.pd3120_c.proofs.Walks.TickLoop.{Called}
 use Rattle.pd3120_c.proofs.Walks.TickSave.{Called as Kept}
-use Rattle.pd3120_c.proofs.Walks.Turns.{turned}
 use Rattle.ticks.proofs.begin.Symbol as begin-def
 use Rattle.ticks.proofs.begin.Symbol.{name as #begin}
 use Rattle.ticks.proofs.begin.Met as begin-thm
@@ -52,9 +52,13 @@ few : (m : Module) (b : Begun) → Begins m b → b .count ≤ 16
 unfolding begunOf
 few m b e = rw e (either (λ (n : ℕ). n ≤ 16) (saveDue (m .shared)) (omega arith) (omega arith))
 
+-- the channels after the save
+abbrev saving : Begun → List Channel → List Channel
+saving b cs = filled (below (b .count)) (λ (k : ℕ). saved true) cs cs
+
 -- the channels after both loops
 abbrev through : Begun → List Channel → List Channel
-through b cs = turned (λ k. saved true) (box .none) (b .count) (turned (λ k. tickedBy b) (box .none) 16 cs)
+through b cs = saving b (filled (below 16) (λ (k : ℕ). tickedBy b) cs cs)
 
 -- the module after both loops, of a box that had the data channel d
 abbrev end : Begun → Module → Module
@@ -67,8 +71,7 @@ whole-through m l =
     let cs = m .channels in
     let n : length (map (tickedBy b) cs) ≡ 16 = rw length-map l in
     ap (λ (ds : List Channel). left b ds (dataTickedBy b (m .«data_channel»)))
-    (ap (λ (ds : List Channel). turned (λ k. saved true) (box .none) (b .count) ds) (all-turned (tickedBy b) cs l)
-    ∙ saved-turned (saveDue (m .shared)) (tickedBy b) cs n)
+    (ap (saving b) (all-below (tickedBy b) 16 cs cs l l) ∙ saved-done (saveDue (m .shared)) (tickedBy b) cs n)
     ∙ whole m l
 
 follows : (m : Module) (b : Begun) → length (m .channels) ≡ 16 → Begins m b → Ticked m (end b m)

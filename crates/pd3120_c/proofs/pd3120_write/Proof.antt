@@ -7,8 +7,7 @@ use mathlib.Core.Path.{_≡_, refl, sym, ap, _∙_}
 use mathlib.Core.Bool.{Bool, true, false}
 use mathlib.Core.List.{List}
 use Prim.Native.Nat.{ℕ, _/_, _<_}
-use native.Mathlib.Omega.{arith}
-use lib.ListN.{length, length-set, getD, set}
+use lib.ListN.{length, getD, set}
 use Rattle.model.specs.declared.Channel.{Channel}
 use Rattle.model.specs.declared.DataChannel.{DataChannel}
 use Rattle.model.specs.declared.Module.{Module}
@@ -17,16 +16,16 @@ use Rattle.model.specs.declared.Shared.{Shared}
 use Rattle.model.specs.State.{nothing}
 use Rattle.model.specs.Errors.{dataError, generalError}
 use Rattle.model.specs.Calls.{write, step}
+use Rattle.model.proofs.Laws.Filled.{filled, below}
 use Rattle.registers.specs.Places.{slotOf}
 use Rattle.writes.specs.Begun.{dataBy}
+use Rattle.writes.proofs.Laws.Begun.{first-done}
 use Rattle.pd3120_c.specs.declared.WriteBegun.{WriteBegun}
 use Rattle.pd3120_c.specs.Codes.{packed, Left, WriteLeft, eachLeft, writeLeft}
-use Rattle.pd3120_c.proofs.Laws.Turns.{first-turned}
 use Rattle.pd3120_c.proofs.Walks.Types.{word, bytes}
 use Rattle.pd3120_c.proofs.Walks.Box.{shared, service, channel, data-channel, box, write-begun}
 use Rattle.pd3120_c.proofs.Walks.Parts.{Anew}
 use Rattle.pd3120_c.proofs.Walks.Slot.{Found}
-use Rattle.pd3120_c.proofs.Walks.Turns.{turned}
 use Rattle.pd3120_c.proofs.Walks.Write.{Started, meets}
 use Rattle.pd3120_c.proofs.Walks.WriteLoop.{Called, Finished}
 use Rattle.pd3120_c.proofs.Walks.WriteParts.{Wrote}
@@ -74,7 +73,7 @@ abbrev left : WriteBegun → List Channel → DataChannel → Module
 left b cs d = record { shared = b .shared; service = b .service; channels = cs; «data_channel» = d }
 
 abbrev through : WriteBegun → ℕ → Module → List Channel
-through b i m = turned (eachLeft b) (box .none) (b .count) (set (m .channels) i (b .channel))
+through b i m = let cs = set (m .channels) i (b .channel) in filled (below (b .count)) (eachLeft b) cs cs
 
 -- a write that does not come to the data channel leaves it, so both branches leave what the model says
 data-left : (t : Bool) (m : Module) (n : ℕ) (bs : RefT (List ℕ)) (d : DataChannel)
@@ -89,11 +88,9 @@ follows : (m : Module) (n : ℕ) (bs : RefT (List ℕ)) (i : ℕ) (b : WriteBegu
 follows m n bs i b d code l p h t e =
     let own = ap (λ (k : ℕ). getD (m .channels) k nothing) (sym (p .0)) in
     let w = h .2 m (record { shared-is = refl; service-is = refl; sixteen = l; channel-is = own }) in
-    let few = h .0 in
-    let long : length (set (m .channels) i (b .channel)) ≡ 16 = length-set (m .channels) i (b .channel) ∙ l in
     let d′ = dataBy (m .shared) n (bs .now) (m .«data_channel») in
     let whole = ap (left b (through b i m)) (data-left (b .«of_data») m n bs d (h .1 (m .«data_channel»)) t)
-    ∙ ap (λ (cs : List Channel). left b cs d′) (first-turned (eachLeft b) (b .count) (set (m .channels) i (b .channel)) (omega (arith, few, long)))
+    ∙ ap (λ (cs : List Channel). left b cs d′) (first-done (eachLeft b) (b .count) (set (m .channels) i (b .channel)))
     ∙ ap (λ (k : ℕ). writeLeft b k d′ m) (p .0) in
     (whole ∙ w .0, e ∙ ap (λ (x : Module). packed (b .number) 0 (dataError x) (generalError x)) whole ∙ w .1)
 

@@ -8,7 +8,7 @@ use native.Mathlib.Omega.{arith}
 use lib.Dec.{T, ltb, leb·suc-suc}
 use lib.ListN.{length, getD, take, drop, set}
 use lib.Seq.{set-getD}
-use borrow.Author.Tests.{lt-ltb, le-ltb}
+use borrow.Author.Tests.{lt-ltb}
 use Rattle.model.specs.declared.Channel.{Channel}
 use Rattle.model.specs.declared.Shared.{Shared}
 use Rattle.model.specs.declared.Service.{Service}
@@ -23,7 +23,7 @@ use Rattle.model.specs.State.{writeEnable, dataChannel, moduleOf, nothing}
 use Rattle.model.specs.Registers.{Place, service, digital, common, data-channel, unlisted, place}
 use Rattle.model.specs.Questions.{writeReply}
 use Rattle.model.specs.Writes.{each, everyWritten, commonWritten, dataReset, written}
-use Rattle.model.proofs.Laws.Filled.{filled, none, below}
+use Rattle.model.proofs.Laws.Filled.{filled, none, below, below-none}
 use Rattle.registers.specs.declared.Place as Code
 use Rattle.registers.specs.Places.{placed, slotOf, OfChannel}
 use Rattle.registers.proofs.Laws.{slot-of}
@@ -38,7 +38,7 @@ use Rattle.writes.proofs.Laws.Accepted.{answered}
 done-below : (f g : ℕ → Channel → Channel) (p : ℕ → Bool) (n i : ℕ) (xs : List Channel) → ((j : ℕ) → g j ≡ f (i + j)) → ((j : ℕ) → p j ≡ ltb j n)
     → filled p g xs xs ≡ each f i (take n xs) ++ drop n xs
 unfolding filled
-done-below f g p zero i xs q e = none g p xs xs (λ j l. e j ∙ le-ltb j 0 (omega arith))
+done-below f g p zero i xs q e = none g p xs xs (λ j l. e j ∙ below-none j)
 done-below f g p (suc n) i [] q e = refl
 done-below f g p (suc n) i (x ∷ xs) q e =
     let h : g 0 ≡ f i = q 0 ∙ ap f (omega arith) in

@@ -1,14 +1,12 @@
 -- `first_each` meets its contract. Assumes nothing.
 use mathlib.Core.Path.{_≡_, sym, _∙_}
-use mathlib.Core.Bool.{true}
 use Prim.Native.Nat.{ℕ, suc, _-_, _≤_, _<_}
 use native.Mathlib.Numerals.{add-one}
 use native.Mathlib.Omega.{arith}
 use lib.ListN.{length}
 use borrow.Author.Needs.{needs}
-use borrow.Author.Tests.{lt-ltb, le-ltb}
 use Rattle.model.specs.declared.Channel.{Channel}
-use Rattle.model.proofs.Laws.Filled.{filled, none, one-more, untouched, below, up}
+use Rattle.model.proofs.Laws.Filled.{filled, none, in-place, below, below-none, up}
 use Rattle.registers.specs.Places.{placed}
 use Rattle.writes.specs.Begun.{eachWritten}
 use Rattle.writes.proofs.Laws.Begun.{first-done}
@@ -24,7 +22,7 @@ abbrev μ-loop : tie.MeasureT-loop
 loop-holds : tie.Need-loop-holds Inv-loop μ-loop
 loop-holds c =
     let a = c .args in
-    (search needs, sym (none (eachWritten (placed (a .p)) (a .word)) (below 0) (a .channels) (a .channels) (λ j l. le-ltb j 0 (omega arith))))
+    (search needs, sym (none (eachWritten (placed (a .p)) (a .word)) (below 0) (a .channels) (a .channels) (λ j l. below-none j)))
 
 mul-ch : tie.Need-mul-ch Inv-loop μ-loop
 mul-ch c = search needs
@@ -56,11 +54,7 @@ loop-again c =
     let g : ℕ → Channel → Channel = eachWritten (placed (s .args .p)) (s .args .word) in
     let n : length xs ≡ 16 = search (needs, s .good .1 .0) in
     let h : k < length xs = omega arith in
-    let t : below (suc k) k ≡ true = lt-ltb k (suc k) (omega arith) in (
-      omega arith,
-      rw (c .each .ensures, l .inv .1, add-one, untouched g (below k) k xs xs _ (le-ltb k k (omega arith)))
-          (one-more g (below k) (below (suc k)) k xs xs _ h h t (up k)),
-    )
+    (omega arith, rw (c .each .ensures, l .inv .1, add-one) (in-place g (below k) (below (suc k)) k xs _ h (up k)))
 
 returns : tie.Need-returns Inv-loop μ-loop
 returns c =

@@ -1,15 +1,13 @@
 -- `decode::channels_of` meets its contract. Assumes nothing.
 use borrow.Author.Needs.{needs}
 use mathlib.Core.Path.{_≡_, refl, sym, ap, _∙_}
-use mathlib.Core.Bool.{true}
 use Prim.Native.Nat.{ℕ, suc, _+_, _*_, _-_, _≤_, _<_}
 use native.Mathlib.Numerals.{add-one}
 use native.Mathlib.Omega.{arith}
 use lib.ListN.{length, take, drop, getD}
-use borrow.Author.Tests.{lt-ltb, le-ltb}
 use Rattle.model.specs.Image.{entryFrom, entriesFrom}
 use Rattle.model.specs.Restored.{restored}
-use Rattle.model.proofs.Laws.Filled.{filled, none, one-more, all, below, up}
+use Rattle.model.proofs.Laws.Filled.{filled, none, one-more, below, below-none, all-below, up}
 use Rattle.model.proofs.Images.Sequence.{entries-count}
 use Rattle.image.proofs.Laws.Entries.{entry-at}
 use Rattle.image.proofs.decode.channels_of.Statement.{statement}
@@ -36,7 +34,7 @@ channel-of-requires c κs = search needs
 loop-holds : tie.Need-loop-holds Inv-loop μ-loop
 loop-holds c =
     let l = c .before .before .before .args .s .now in
-    (search needs, refl, sym (none (λ (j : ℕ). restored) (below 0) (entriesFrom 16 l) _ (λ j h. le-ltb j 0 (omega arith))))
+    (search needs, refl, sym (none (λ (j : ℕ). restored) (below 0) (entriesFrom 16 l) _ (λ j h. below-none j)))
 
 mul-at : tie.Need-mul-at Inv-loop μ-loop
 mul-at c = search needs
@@ -78,12 +76,11 @@ loop-again c =
     let n : k < length es = rw (entries-count 16 l) (c .before .before .loop-test .taken) in
     let ch : c .channel-of2 .result ≡ restored (getD es k d) =
     c .channel-of2 .ensures ∙ ap (λ (j : ℕ). restored (entryFrom (take j (drop (44 * k) l)))) w ∙ ap restored
-    (sym (entry-at 16 l k d (c .before .before .loop-test .taken))) in
-    let t : below (suc k) k ≡ true = lt-ltb k (suc k) (omega arith) in (
+    (sym (entry-at 16 l k d (c .before .before .loop-test .taken))) in (
       omega arith,
       c .before .before .before .loop .inv .1,
       rw (ch, c .before .before .before .loop .inv .2, add-one) (one-more (λ (j : ℕ). restored) (below k) (below (suc k)) k es _ d n
-          (omega (arith, c .before .before .before .loop .inv .1)) t (up k)),
+          (omega (arith, c .before .before .before .loop .inv .1)) (up k)),
     )
 
 returns : tie.Need-returns Inv-loop μ-loop
@@ -91,7 +88,7 @@ returns c =
     let l = c .before .before .before .before .before .args .s .now in
     let e : c .before .loop .k ≡ 16 = omega arith in
     let n = entries-count 16 l in
-    c .before .loop .inv .2 ∙ rw e (all restored (below 16) (entriesFrom 16 l) _ (n ∙ sym (c .before .loop .inv .1)) (λ j h. lt-ltb j 16 (rw n at h)))
+    c .before .loop .inv .2 ∙ rw e (all-below restored 16 (entriesFrom 16 l) _ n (c .before .loop .inv .1))
 
 pub channels-of-spec : {M : Type 1} → statement M
 channels-of-spec =
