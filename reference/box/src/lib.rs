@@ -9,10 +9,10 @@
 //! setup image." Of document 02 (the change requests), Change 1 is built, the
 //! data channel, $13, Change 2, the quarters of an operating count, Change 3,
 //! one sample for level and current, Change 4, the water charge from two
-//! readings, Change 5, times written that become the nearest count, and
-//! Change 6, opening hours by the minute of the week. Their sentences are named
-//! "Change 1:" and so on, or stand in quotation marks in [`data`], [`charge`]
-//! and [`hours`].
+//! readings, Change 5, times written that become the nearest count, Change 6,
+//! opening hours by the minute of the week, and Change 7, channels taken from 16
+//! to 1 in a tick. Their sentences are named "Change 1:" and so on, or stand in
+//! quotation marks in [`data`], [`charge`] and [`hours`].
 
 pub mod calls;
 pub mod channel;

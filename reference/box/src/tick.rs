@@ -13,8 +13,9 @@ const LOOK: i32 = 32;
 pub const LAST_OF_SAVE: u32 = 1_151_999;
 
 impl ChannelBox {
-    /// One tick. No tick changes an InFlag, so that channels can be taken one
-    /// after the other.
+    /// One tick. Change 7: "Registers, flags and errors after the tick must come
+    /// out equal to before." No tick changes an InFlag, and a channel sees
+    /// nothing else of another one, so that any order gives the same box.
     pub fn tick(&mut self) {
         // Change 6: the minute is advanced "as each 1920th tick [...] begins".
         self.clock.begin_tick();
@@ -24,11 +25,14 @@ impl ChannelBox {
         let in_flags = self.in_flags();
         // Change 1: "TimerA and TimerB as OutTimer".
         self.data.count_timers(STEP);
-        for channel in &mut self.channels {
+        // Change 7: "Do the channel work from 16 to 1."
+        for channel in self.channels.iter_mut().rev() {
             let cleared = run_out || channel.is_closed(minute);
             channel.tick(cleared, look, in_flags);
         }
-        self.count_to_save();
+        if self.count_to_save() {
+            self.save();
+        }
     }
 
     /// "1. FreeRunTimer gains 8, wrapping. WDTimer loses 8, stopping at 0. If
@@ -46,14 +50,20 @@ impl ChannelBox {
 
     /// "7. Every 1152000th tick since power-up or reset (ten hours; the box
     /// counts from 0 to 1151999, a higher count acts as 1151999) Counter and
-    /// the operating count are kept." Change 1: so is RealA.
-    fn count_to_save(&mut self) {
+    /// the operating count are kept." Answers whether this tick keeps them.
+    fn count_to_save(&mut self) -> bool {
         if self.save_count < LAST_OF_SAVE {
             self.save_count += 1;
-            return;
+            return false;
         }
         self.save_count = 0;
-        for channel in &mut self.channels {
+        true
+    }
+
+    /// "Counter and the operating count are kept." Change 1: so is RealA.
+    /// Change 7: "Do the channel work from 16 to 1", that of the save too.
+    fn save(&mut self) {
+        for channel in self.channels.iter_mut().rev() {
             channel.keep_counts();
         }
         self.data.keep_real_a();

@@ -1,6 +1,7 @@
 mod errors;
 mod hours;
 mod looks;
+mod order;
 mod outputs;
 mod quarters;
 mod service;

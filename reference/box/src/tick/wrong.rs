@@ -1,5 +1,9 @@
 //! Change 6: ticks whose clearing is wrong in one way. Tests ask whether
-//! generated scripts tell them from the model's.
+//! generated scripts tell them from the model's. Ticks that go through the
+//! channels in another way, Change 7, stand in [`orders`].
+
+pub(crate) mod orders;
+mod steps;
 
 use super::{LOOK, STEP};
 use crate::calls::ChannelBox;
@@ -22,17 +26,35 @@ pub(crate) enum Clearing {
     WithError,
 }
 
+/// What all channels of a tick have in common.
+#[derive(Clone, Copy)]
+struct Common {
+    run_out: bool,
+    look: bool,
+    in_flags: u16,
+}
+
 impl ChannelBox {
+    /// What a tick does before the work on its channels, the minute apart.
+    fn begin_work(&mut self) -> Common {
+        self.data.count_timers(STEP);
+        let run_out = self.count_service();
+        Common {
+            run_out,
+            look: self.free_run_timer % LOOK == 0,
+            in_flags: self.in_flags(),
+        }
+    }
+
     /// A tick in which the minute is left, and these channels are closed.
     pub(crate) fn tick_clearing(&mut self, clearing: Clearing, closed: [bool; CHANNELS]) {
-        let run_out = self.count_service();
-        let look = self.free_run_timer % LOOK == 0;
-        let in_flags = self.in_flags();
-        self.data.count_timers(STEP);
-        for (channel, closed) in self.channels.iter_mut().zip(closed) {
-            channel.tick_clearing(clearing, run_out, closed, look.then_some(in_flags));
+        let common = self.begin_work();
+        for (channel, closed) in self.channels.iter_mut().zip(closed).rev() {
+            channel.tick_clearing(clearing, closed, common);
         }
-        self.count_to_save();
+        if self.count_to_save() {
+            self.save();
+        }
     }
 }
 
@@ -73,15 +95,9 @@ impl Channel {
         }
     }
 
-    fn tick_clearing(
-        &mut self,
-        clearing: Clearing,
-        run_out: bool,
-        closed: bool,
-        look: Option<u16>,
-    ) {
+    fn tick_clearing(&mut self, clearing: Clearing, closed: bool, common: Common) {
         let mut start = self.out_flag;
-        if run_out {
+        if common.run_out {
             self.clear();
         }
         if closed {
@@ -95,8 +111,8 @@ impl Channel {
         self.change_rule(start);
         self.trip_on_load();
         self.clear_late(closed && clearing == Clearing::AfterTrip);
-        if let Some(in_flags) = look {
-            self.look(in_flags);
+        if common.look {
+            self.look(common.in_flags);
         }
         self.count_operating();
         self.judge();
