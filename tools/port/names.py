@@ -13,6 +13,7 @@ import sys
 
 HERE = os.path.dirname(os.path.realpath(__file__))
 WORD = re.compile(r"[^\s(){}\[\].,;:@\"«»⌜⌝|→`]+")
+CLAUSE = re.compile(r"\s*(?:ensures|requires)\b")
 SPAN = re.compile(r"`[^`\n]+`")
 
 
@@ -71,7 +72,8 @@ def main(top):
             if name.endswith(".antt"):
                 new = antt(text, table, plain, name == "Proof.antt")
             elif name.endswith(".rt"):
-                new = turned(text, plain)
+                lines = text.split("\n")
+                new = "\n".join(turned(line, table if CLAUSE.match(line) else plain) for line in lines)
             elif name.endswith(".edit"):
                 new = edit(text, table, plain)
             else:

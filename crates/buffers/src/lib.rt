@@ -1,4 +1,6 @@
 // Bytes put into a lent buffer, from a place on.
+#![tactic(auto)]
+
 ghost use Rattle.std.specs.Prelude.{◌≡◌, [], ◌∷◌, ◌++◌, ◌+◌, ◌<◌, ◌≤◌, length};
 ghost use Rattle.model.specs.Reads.{pairs_bytes};
 ghost use Rattle.model.specs.Image.{table_size};

@@ -1,6 +1,8 @@
 // The charge for the water between two readings of a Counter, for the office program: a library above
 // the box. Of the box it names public functions and what their contracts show, and nothing of how it
 // is made; whole numbers it takes from `integers`. No public function asks anything of its caller.
+#![tactic(auto)]
+
 ghost use Rattle.std.specs.Prelude.{◌≡◌, true, suc, ◌≤◌, min, length};
 ghost use Rattle.charge.specs.Charge.{pulses, filled, priced, hundredths, rounded, rising, prices_allowed, question17, refused, charged};
 ghost use Rattle.charge.specs.Claims.{most_litres, most_hundredths};
@@ -11,7 +13,7 @@ use integers::signed;
 
 // The blocks in order: how many there are, the upper limits in litres of all but the last, and the
 // prices in hundredths of a cent per litre. Limits and prices past the count are not looked at.
-#[derive(Drop)]
+#[derive(Clone, Copy)]
 pub struct Tariff {
     pub blocks: u32,
     pub limits: [u64; 3],
@@ -19,7 +21,7 @@ pub struct Tariff {
 }
 
 // 0 and the cents, or 16 or 17 and no cents.
-#[derive(Drop)]
+#[derive(Clone, Copy)]
 pub struct Charged {
     pub number: u8,
     pub cents: u64,

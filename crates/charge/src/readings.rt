@@ -10,7 +10,7 @@ use pd3120::replies;
 const COUNTER: u16 = 2;
 
 // What a reading answers, and the box that it leaves. counter is 0 where it is refused.
-#[derive(Drop)]
+#[derive(Clone, Copy)]
 pub struct Reading {
     pub after: Module,
     pub number: u8,

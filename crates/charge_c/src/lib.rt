@@ -1,6 +1,8 @@
 // The C boundary of the charge: the one function that the office program calls, over limits, prices
 // and cents in the caller's memory. It asks nothing of its caller beyond what a reference itself
 // carries.
+#![tactic(auto)]
+
 ghost use Rattle.std.specs.Prelude.{◌≡◌};
 ghost use Rattle.charge.specs.Charge.{charged};
 ghost use Rattle.charge_c.specs.Codes.{tariff_of, answer_of};

@@ -23,9 +23,9 @@ watchdog : (t : TimerCount) → SFits w32 t.0 → SFits w32 (watchdog_tick t).0
 unfolding watchdog_tick
 watchdog t F = larger-fits t.0 (pos 0) F (record { sfits = omega arith })
 
-out_timer_lem : (t : TimerCount) → SFits w32 (out_timer_tick t).0
+out_timer : (t : TimerCount) → SFits w32 (out_timer_tick t).0
 unfolding out_timer_tick
-out_timer_lem t = wrapped-claim.held w32 (t.0 -ℤ pos 8)
+out_timer t = wrapped-claim.held w32 (t.0 -ℤ pos 8)
 
 feedback : (t : TimerCount) → SFits w32 t.0 → SFits w32 (feedback_tick t).0
 unfolding feedback_tick
@@ -47,7 +47,7 @@ steps-held =
     record {
       free_run = free-run;
       watchdog = watchdog;
-      out_timer_of = out_timer_lem;
+      out_timer_of = out_timer;
       feedback = feedback;
       operating = operating;
       operating_time = operating-time;

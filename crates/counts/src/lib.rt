@@ -1,5 +1,7 @@
 // Counts of time: a timer's in 1/256 s, an operating time's in 1/8 s, each a type of its own, so that
 // neither is taken for the other. A tick, 1/32 s, is 8 of the first and a quarter of the second.
+#![tactic(auto)]
+
 ghost use Rattle.std.specs.Prelude.{◌≡◌, cond, ◌+◌, eqb, ltb, pos, ◌-ℤ◌};
 ghost use Rattle.integers.specs.Integers.{larger};
 ghost use Rattle.counts.specs.Counts.{free_run_tick, watchdog_tick, out_timer_tick, feedback_tick, counter_step, is_negative, is_positive};
@@ -8,16 +10,16 @@ ghost use Rattle.counts.specs.Counts.{operating_step, operating_tick};
 use integers::signed;
 
 #[repr(C)]
-#[derive(Drop)]
+#[derive(Clone, Copy)]
 pub struct TimerCount(pub i32);
 
 #[repr(C)]
-#[derive(Drop)]
+#[derive(Clone, Copy)]
 pub struct OperatingCount(pub u32);
 
 // An operating count, and the quarters past it, 0 to 3.
 #[repr(C)]
-#[derive(Drop)]
+#[derive(Clone, Copy)]
 pub struct Operating {
     pub count: OperatingCount,
     pub quarters: u8,

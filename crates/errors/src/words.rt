@@ -7,7 +7,7 @@ use crate::{any_bit, bits};
 use model::Channel;
 
 // OutFlags, InFlags and the two words of IOChError: bit k-1 for channel k.
-#[derive(Drop)]
+#[derive(Clone, Copy)]
 pub struct Words {
     pub out_flags: u16,
     pub in_flags: u16,
@@ -43,7 +43,7 @@ pub fn of_channels(channels: [Channel; 16]) -> Words
 }
 
 // Whether His, and whether Act, of any channel is not 0.
-#[derive(Drop)]
+#[derive(Clone, Copy)]
 pub struct AnyErrors {
     pub his: bool,
     pub act: bool,

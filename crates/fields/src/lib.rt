@@ -1,5 +1,7 @@
 // The values that the bytes of a register or of a setup image hold, and which settings are allowed.
 // The length of the bytes is asked before.
+#![tactic(auto)]
+
 ghost use Rattle.std.specs.Prelude.{◌≡◌, length};
 ghost use Rattle.integers.specs.Bytes.{number, signed_number};
 ghost use Rattle.numbers.specs.Reals.{real_from};

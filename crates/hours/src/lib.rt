@@ -1,5 +1,7 @@
 // Opening hours: the minute of the week as a tick begins, whether a channel is closed, and the
 // windows that a call gives.
+#![tactic(auto)]
+
 ghost use Rattle.std.specs.Prelude.{◌≡◌, ◌≤◌, length, take};
 ghost use Rattle.model.specs.Hours.{unset_clock, clock_at, clock_ticked, no_windows, window_of, timetable_of, time_of, within, opens, any_opens, closed};
 

@@ -1,4 +1,6 @@
 // The setup image: power-up from one, and storing one.
+#![tactic(auto)]
+
 ghost use Rattle.std.specs.Prelude.{◌≡◌};
 ghost use Rattle.model.specs.Questions.{power_up_reply, store_reply};
 ghost use Rattle.model.specs.Calls.{power_up, stored};
@@ -13,7 +15,7 @@ mod encode; // an image's bytes, written into a buffer
 mod sizes; // how long its sections are, and where they stand
 
 // What power-up answers, and the box that it leaves.
-#[derive(Drop)]
+#[derive(Clone, Copy)]
 pub struct Started {
     pub after: Module,
     pub reply: Reply,

@@ -1,4 +1,6 @@
 // The level tables: what a table answers for a Real. Every operation is one of f32, rounded once.
+#![tactic(auto)]
+
 ghost use Rattle.std.specs.Prelude.{◌≡◌, map, drop};
 ghost use Rattle.model.specs.Lookup.{acting, acting_pair, acts, pair_at, between, on_line, from_first, looked_up, table_of, level_bits};
 

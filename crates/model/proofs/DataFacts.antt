@@ -10,14 +10,14 @@ use Rattle.model.specs.declared.Module.{Module}
 use Rattle.model.specs.declared.DataRegister.{DataRegister}
 use Rattle.model.specs.declared.DataRegister.TheVariants.{RealA, RealB, TimerA, TimerB, LookUp1, LookUp2}
 use Rattle.model.specs.State.{data_channel_of, write_enable_of, set_real_a, set_real_b, keep_real_a, keep_real_b}
-use Rattle.model.specs.Registers.{data_channel_lem, unlisted, data_row, place}
+use Rattle.model.specs.Registers.{data_channel, unlisted, data_row, place}
 use Rattle.model.specs.Tick.{save_due, ticked, data_timers_run, data_ticked}
 use Rattle.model.specs.Writes.{data_written}
 use Rattle.model.specs.Calls.{step}
 use Rattle.model.specs.TwoLists.{stranger}
 use Rattle.model.specs.DataFacts.{DataFacts}
 
-found : (r : DataRegister) → place (0x130 + (data_row r).number) ≡ data_channel_lem r
+found : (r : DataRegister) → place (0x130 + (data_row r).number) ≡ data_channel r
 unfolding place
 found RealA = refl
 found RealB = refl

@@ -24,7 +24,7 @@ use Rattle.model.specs.declared.CommonRegister.TheVariants.{OutFlags, InFlags, I
 use Rattle.model.specs.declared.DataRegister.TheVariants.{RealA, RealB, TimerA, TimerB, LookUp1, LookUp2}
 use Rattle.model.specs.State.{data_channel_of, channel_at, write_enable_of}
 use Rattle.model.specs.Errors as Errors
-use Rattle.model.specs.Registers.{Place, service, digital, common, data_channel_lem, unlisted, place, size}
+use Rattle.model.specs.Registers.{Place, service, digital, common, data_channel, unlisted, place, size}
 use Rattle.model.specs.Reads as Reads
 use Rattle.model.specs.Reads.{bytes_read}
 use Rattle.model.specs.Tick as Tick
@@ -80,7 +80,7 @@ size-common IOChError m = refl
 size-common CommonChError m = refl
 
 size-data : (r : DataRegister) (m : Module) → length (data_channel_of m).table1.pairs ≡ 10 → length (data_channel_of m).table2.pairs ≡ 10 →
-    length (bytes_read (data_channel_lem r) m) ≡ size (data_channel_lem r)
+    length (bytes_read (data_channel r) m) ≡ size (data_channel r)
 unfolding bytes_read Reads.data_bytes Bytes.bytes_of Reals.real_bytes
 size-data RealA m e f = refl
 size-data RealB m e f = refl
@@ -118,7 +118,7 @@ unfolding Writes.written
 written-clear (service r) bs m e = errors-clear r m.service e
 written-clear (digital k r) bs m e = e
 written-clear (common r) bs m e = e
-written-clear (data_channel_lem r) bs m e = e
+written-clear (data_channel r) bs m e = e
 written-clear unlisted bs m e = e
 
 cleared_by_write : (m : Module) (n : ℕ) (bs : List ℕ) → (step m (write n bs)).box.service.act.wd_run_out ≡ false

@@ -55,8 +55,8 @@ restored-entries (e ∷ es) = ap₂ (λ (x : Entry) (xs : List Entry). x ∷ xs)
 started-setup : (s : Setup) → setup_of (powered_up s) ≡ s
 unfolding powered_up
 started-setup s = λ i. record {
-  module_config_lem = s.module_config_lem;
-  wd_preset_lem = s.wd_preset_lem;
+  module_config = s.module_config;
+  wd_preset = s.wd_preset;
   entries = restored-entries
       s.entries i;
   data_kept = s.data_kept;
@@ -127,8 +127,8 @@ older m r =
       older-long s (held m r),
       record {
         accepted = number-done (older_image s) ok;
-        module_config_lem = λ i. (e i).module_config_lem;
-        wd_preset_lem = λ i. (e i).wd_preset_lem;
+        module_config = λ i. (e i).module_config;
+        wd_preset = λ i. (e i).wd_preset;
         entries = λ i. (e i).entries;
         zeros = λ i. (e i).data_kept;
       },
@@ -149,7 +149,7 @@ refused img h = go (power_up_reply img) h
 
 written : (m : Module) → Reached m → (lent : List ℕ) → 886 ≤ length lent →
     store_answer m lent
-    ≡ record { number = 0; length = 886; buffer = encode (setup_of m) ++ drop 886 lent; data_error_lem = false; general_error_lem = false; real_bits_of = 0 }
+    ≡ record { number = 0; length = 886; buffer = encode (setup_of m) ++ drop 886 lent; data_error = false; general_error = false; real_bits = 0 }
 unfolding store_answer stored store_reply
 written m r lent h =
     let s = setup_of m in

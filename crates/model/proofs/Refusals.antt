@@ -177,12 +177,12 @@ start img n h = go (power_up_reply img) h
     go (Refused q) h = refl
 
 store : (m : Module) (lent : List ℕ) (n : ℕ) → (store_answer m lent).number ≡ suc n →
-    store_answer m lent ≡ record { number = suc n; length = 0; buffer = lent; data_error_lem = false; general_error_lem = false; real_bits_of = 0 }
+    store_answer m lent ≡ record { number = suc n; length = 0; buffer = lent; data_error = false; general_error = false; real_bits = 0 }
 unfolding stored store_answer
 store m lent n h = go (store_reply lent) h
   where
     go : (r : Reply) → number_of r ≡ suc n →
-        plain_answer r (store_fills r lent m) ≡ record { number = suc n; length = 0; buffer = lent; data_error_lem = false; general_error_lem = false; real_bits_of = 0 }
+        plain_answer r (store_fills r lent m) ≡ record { number = suc n; length = 0; buffer = lent; data_error = false; general_error = false; real_bits = 0 }
     go (Done k) h = none h
     go (Refused q) h = rw h
 

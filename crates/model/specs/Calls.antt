@@ -58,10 +58,10 @@ pub record Answer : Type 0 where
   pub number : ℕ
   pub length : ℕ
   pub buffer : List ℕ
-  pub data_error_lem : Bool
-  pub general_error_lem : Bool
+  pub data_error : Bool
+  pub general_error : Bool
   -- Change 1, 7: the bits of a lookup's Real
-  pub real_bits_of : ℕ
+  pub real_bits : ℕ
 
 pub record Stepped : Type 0 where
   pub answer : Answer
@@ -69,7 +69,7 @@ pub record Stepped : Type 0 where
 
 -- from a reply, whose case gives the number and the length; the buffer afterwards; DataError and GeneralError
 abbrev pub answer_of : Reply → List ℕ → Bool → Bool → ℕ → Answer
-answer_of r buf d g bits = record { number = number_of r; length = length_of r; buffer = buf; data_error_lem = d; general_error_lem = g; real_bits_of = bits }
+answer_of r buf d g bits = record { number = number_of r; length = length_of r; buffer = buf; data_error = d; general_error = g; real_bits = bits }
 
 -- of a wire call; the two bits are taken of m
 abbrev pub wire_answer : Reply → List ℕ → Module → Answer

@@ -9,7 +9,7 @@ use Rattle.model.specs.declared.DataRegister.{DataRegister}
 use Rattle.model.specs.declared.DataRegister.TheVariants.{RealA, RealB, TimerA, TimerB}
 use Rattle.model.specs.declared.DigitalRegister.TheVariants.{OutTimer}
 use Rattle.model.specs.State.{data_channel_of, reals_of, write_enable_of, with_data}
-use Rattle.model.specs.Registers.{data_channel_lem, unlisted, data_row, place}
+use Rattle.model.specs.Registers.{data_channel, unlisted, data_row, place}
 use Rattle.model.specs.Tick.{save_due, ticked}
 use Rattle.model.specs.Writes.{digital_allowed, data_allowed, data_written}
 use Rattle.model.specs.Calls.{read, write, look_up, step}
@@ -17,7 +17,7 @@ use Rattle.model.specs.TwoLists.{is_for, owner_of, stranger}
 
 pub record DataFacts : Type 0 where
   -- each register is found at its own number, and none at $12x
-  pub found : (r : DataRegister) → place (0x130 + (data_row r).number) ≡ data_channel_lem r
+  pub found : (r : DataRegister) → place (0x130 + (data_row r).number) ≡ data_channel r
   pub none_at_12 : (n : ℕ) → n < 0x10 → place (0x120 + n) ≡ unlisted
   -- RealA is kept by the save, RealB is not
   pub saved : (m : Module) → save_due m.shared ≡ true → (data_channel_of (ticked m)).kept.a ≡ (data_channel_of m).reals.a

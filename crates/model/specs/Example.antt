@@ -17,8 +17,8 @@ abbrev pub output_with : ℕ → Entry
 output_with a =
     record {
       config = config 0 0x10 a 0;
-      fb_preset_lem = timer (pos 0);
-      out_preset_lem = timer (pos 0);
+      fb_preset = timer (pos 0);
+      out_preset = timer (pos 0);
       min = of_int binary32 (pos 0);
       max = of_int binary32 (pos 1);
       reals = replicate 8 0;
@@ -32,8 +32,8 @@ output_with a =
 abbrev pub setup : Setup
 setup =
     record {
-      module_config_lem = config 0 0 0 0;
-      wd_preset_lem = timer (pos 256);
+      module_config = config 0 0 0 0;
+      wd_preset = timer (pos 256);
       entries = output_with 2 ∷ entry_from (replicate entry_size 0) ∷ output_with 0 ∷ replicate 13 (entry_from (replicate entry_size 0));
       data_kept = kept_from (replicate data_size 0);
     }

@@ -48,8 +48,8 @@ older_image s = summed (framed (take 2 sections) (take 2 (contents_of s)))
 -- such an image is accepted and powers up to the kept values of m, with zeros in the data channel
 pub record LoadsWithZeros (m : Module) (img : List ℕ) : Type 0 where
   pub accepted : (power_up_answer img).number ≡ 0
-  pub module_config_lem : (setup_of (power_up img)).module_config_lem ≡ (setup_of m).module_config_lem
-  pub wd_preset_lem : (setup_of (power_up img)).wd_preset_lem ≡ (setup_of m).wd_preset_lem
+  pub module_config : (setup_of (power_up img)).module_config ≡ (setup_of m).module_config
+  pub wd_preset : (setup_of (power_up img)).wd_preset ≡ (setup_of m).wd_preset
   pub entries : (setup_of (power_up img)).entries ≡ (setup_of m).entries
   pub zeros : (setup_of (power_up img)).data_kept ≡ zero_data
 
@@ -70,6 +70,6 @@ pub record Images : Type 0 where
   -- storing a reached box answers 0 and 886, and puts its image over the first 886 bytes of a buffer that has them
   pub written : (m : Module) → Reached m → (lent : List ℕ) → 886 ≤ length lent →
       store_answer m lent
-      ≡ record { number = 0; length = 886; buffer = encode (setup_of m) ++ drop 886 lent; data_error_lem = false; general_error_lem = false; real_bits_of = 0 }
+      ≡ record { number = 0; length = 886; buffer = encode (setup_of m) ++ drop 886 lent; data_error = false; general_error = false; real_bits = 0 }
   -- and that image powers up to what it was stored from
   pub back : (m : Module) → Reached m → (lent : List ℕ) → 886 ≤ length lent → PowersUpTo m (take 886 (store_answer m lent).buffer)

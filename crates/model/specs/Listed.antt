@@ -8,7 +8,7 @@ use Rattle.model.specs.declared.DigitalRegister.TheVariants.{FlagReg, OutTimer, 
 use Rattle.model.specs.declared.DigitalRegister.TheVariants.{FBPreset, OutPreset, ChConfig, MinCurrent, MaxCurrent, UserReals, Maintenance, ChError}
 use Rattle.model.specs.declared.CommonRegister.TheVariants.{OutFlags, InFlags, IOChError, ChError as CommonChError}
 use Rattle.model.specs.declared.DataRegister.TheVariants.{RealA, RealB, TimerA, TimerB, LookUp1, LookUp2}
-use Rattle.model.specs.Registers.{Place, service, digital, common, data_channel_lem, unlisted, place, access, size}
+use Rattle.model.specs.Registers.{Place, service, digital, common, data_channel, unlisted, place, access, size}
 
 -- what the table says of a SWNo
 pub record Shown : Type 0 where
@@ -60,7 +60,7 @@ common_table =
 
 abbrev pub data_table : List Shown
 data_table =
-    let r = data_channel_lem in
+    let r = data_channel in
     W (r RealA) 4 ∷ W (r RealB) 4 ∷ none ∷ none ∷ none ∷ none ∷ none ∷ none
     ∷ none ∷ none ∷ W (r TimerA) 4 ∷ W (r TimerB) 4 ∷ P (r LookUp1) 80 ∷ P (r LookUp2) 80 ∷ none ∷ none ∷ []
 

@@ -83,9 +83,9 @@ pub record ChannelParts (g : Config) (f : Flags) (ot ft op fp : TimerCount) (i :
   pub user_kept : (kn : ℤ) (kt : OperatingCount) (ku : List ℕ) →
       keep_user (channel g f ot ft op fp i e n t q u r d w (kept_of kn kt ku)) ≡ channel g f ot ft op fp i e n t q u r d w (kept_of kn kt u)
   -- a flag, a current
-  pub out_flags_of : (x o i' c s m : Bool) →
+  pub out_flags : (x o i' c s m : Bool) →
       set_out_flag x (channel g (flags o i' c s m) ot ft op fp i e n t q u r d w k) ≡ channel g (flags x i' c s m) ot ft op fp i e n t q u r d w k
-  pub in_flags_of : (x o i' c s m : Bool) →
+  pub in_flags : (x o i' c s m : Bool) →
       set_in_flag x (channel g (flags o i' c s m) ot ft op fp i e n t q u r d w k) ≡ channel g (flags o x c s m) ot ft op fp i e n t q u r d w k
   pub controls : (x o i' c s m : Bool) →
       set_control x (channel g (flags o i' c s m) ot ft op fp i e n t q u r d w k) ≡ channel g (flags o i' x s m) ot ft op fp i e n t q u r d w k

@@ -12,7 +12,7 @@ use Rattle.model.specs.declared.Refusal.TheVariants.{NotMinute, TooManyWindows}
 use Rattle.model.specs.declared.Reply.TheVariants.{Done, Refused}
 use Rattle.model.specs.Hours.{is_minute, window_of}
 use Rattle.model.specs.Settings.{is_digital}
-use Rattle.model.specs.Registers.{Place, service, digital, common, data_channel_lem, unlisted, access, size, highest_swno}
+use Rattle.model.specs.Registers.{Place, service, digital, common, data_channel, unlisted, access, size, highest_swno}
 use Rattle.model.specs.Writes.{allowed}
 use Rattle.model.specs.Image.{size_right, counts_right, sum_right, values_allowed, image_size}
 
@@ -74,7 +74,7 @@ abbrev pub question2 : Place → Bool
 question2 (service r) = true
 question2 (digital k r) = true
 question2 (common r) = true
-question2 (data_channel_lem r) = true
+question2 (data_channel r) = true
 question2 unlisted = false
 
 abbrev pub is_writable : Access → Bool

@@ -24,7 +24,7 @@ use Rattle.model.specs.State.{free_run_timer_of, module_config_of, wd_preset_of,
 use Rattle.model.specs.Settings.{in_a, in_b_of}
 use Rattle.model.specs.Channel.{acknowledged}
 use Rattle.model.specs.Errors.{bit_value, byte_of, word_of, any, error_byte, has_his, has_act, ch_error, common_error_bytes, service_acknowledged}
-use Rattle.model.specs.Registers.{Place, service, digital, common, data_channel_lem, unlisted, highest_swno}
+use Rattle.model.specs.Registers.{Place, service, digital, common, data_channel, unlisted, highest_swno}
 use Rattle.model.specs.Tick.{levels}
 
 -- Registers 3: a count of 1/256 s as a Real
@@ -93,7 +93,7 @@ unfoldable pub bytes_read : Place → Module → List ℕ
 bytes_read (service r) m = service_bytes r m
 bytes_read (digital k r) m = digital_bytes r (levels m) (channel_at m k)
 bytes_read (common r) m = common_bytes r m.channels
-bytes_read (data_channel_lem r) m = data_bytes r (data_channel_of m)
+bytes_read (data_channel r) m = data_bytes r (data_channel_of m)
 bytes_read unlisted m = []
 
 -- Registers 7: CommonError acknowledges the service channel's own errors, and ChError those of its channel; no other read changes anything
@@ -128,5 +128,5 @@ unfoldable pub after_read : Place → Module → Module
 after_read (service r) m = with_service_record (service_read r m.service) m
 after_read (digital k r) m = put_channel k (digital_read r (channel_at m k)) m
 after_read (common r) m = m
-after_read (data_channel_lem r) m = m
+after_read (data_channel r) m = m
 after_read unlisted m = m

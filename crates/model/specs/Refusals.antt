@@ -76,12 +76,12 @@ abbrev pub wire_refused : Module → ℕ → List ℕ → Stepped
 wire_refused m n lent =
     let c = cleared m in
     record {
-      answer = record { number = n; length = 0; buffer = lent; data_error_lem = data_error_of c; general_error_lem = general_error_of c; real_bits_of = 0 };
+      answer = record { number = n; length = 0; buffer = lent; data_error = data_error_of c; general_error = general_error_of c; real_bits = 0 };
       box = watchdog_preset c;
     }
 
 abbrev pub plainly_refused : Module → ℕ → Stepped
-plainly_refused m n = record { answer = record { number = n; length = 0; buffer = []; data_error_lem = false; general_error_lem = false; real_bits_of = 0 }; box = m }
+plainly_refused m n = record { answer = record { number = n; length = 0; buffer = []; data_error = false; general_error = false; real_bits = 0 }; box = m }
 
 abbrev pub refused_by : Sort → Module → ℕ → Stepped
 refused_by a_tick m n = plainly_refused m n
@@ -95,7 +95,7 @@ pub record Refusals : Type 0 where
   -- a refused power-up gives the box of all-zero settings; a refused storing answers no length and leaves the buffer
   pub start : (img : List ℕ) (n : ℕ) → (power_up_answer img).number ≡ suc n → power_up img ≡ powered_up zero_setup
   pub store : (m : Module) (lent : List ℕ) (n : ℕ) → (store_answer m lent).number ≡ suc n →
-      store_answer m lent ≡ record { number = suc n; length = 0; buffer = lent; data_error_lem = false; general_error_lem = false; real_bits_of = 0 }
+      store_answer m lent ≡ record { number = suc n; length = 0; buffer = lent; data_error = false; general_error = false; real_bits = 0 }
 
 -- ---- an instance of every number, most of them where a later question is answered no too
 abbrev pub writes : Module → ℕ → List ℕ → ℕ
@@ -110,7 +110,7 @@ enabled m = (step m (write 0x0D (1 ∷ []))).box
 
 -- images: one that is accepted, and one whose ModuleConfig has other Functions
 abbrev pub image_with : ℕ → List ℕ
-image_with functions = encode (record { module_config_lem = config 0 functions 0 0; wd_preset_lem = timer (pos 0); entries = zero_setup.entries; data_kept = zero_data })
+image_with functions = encode (record { module_config = config 0 functions 0 0; wd_preset = timer (pos 0); entries = zero_setup.entries; data_kept = zero_data })
 
 pub record InOrder : Type 0 where
   pub number1 : (m : Module) → writes m 0x140 [] ≡ 1

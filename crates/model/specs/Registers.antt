@@ -89,7 +89,7 @@ pub data Place : Type 0 where
   service : ServiceRegister → Place
   digital : ℕ → DigitalRegister → Place
   common : CommonRegister → Place
-  data_channel_lem : DataRegister → Place
+  data_channel : DataRegister → Place
   unlisted : Place
 
 -- the register that has a number, among those of a channel
@@ -112,7 +112,7 @@ unfoldable pub place : ℕ → Place
 place n =
     cond (eqb (channel_of n) 0) (find service service_row (register_of n) service_registers)
     (cond (eqb (channel_of n) 17) (find common common_row (register_of n) common_registers)
-    (cond (eqb (channel_of n) 19) (find data_channel_lem data_row (register_of n) data_registers)
+    (cond (eqb (channel_of n) 19) (find data_channel data_row (register_of n) data_registers)
     (cond (is_digital (channel_of n)) (find (digital (channel_of n)) digital_row (register_of n) digital_registers) unlisted)))
 
 -- the row of a place. What is not listed has none: R 0 0 stands there, and question 2 refuses it before its row is looked at
@@ -120,7 +120,7 @@ abbrev pub row_of : Place → Row
 row_of (service r) = service_row r
 row_of (digital k r) = digital_row r
 row_of (common r) = common_row r
-row_of (data_channel_lem r) = data_row r
+row_of (data_channel r) = data_row r
 row_of unlisted = R 0 0
 
 abbrev pub access : Place → Access

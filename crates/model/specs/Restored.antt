@@ -17,7 +17,7 @@ use Rattle.model.specs.Image.{Entry, DataKept, Setup, decode, image_size}
 -- Change 2, 2: an operating count comes back without quarters. Change 6, 3: no windows
 unfoldable pub restored : Entry → Channel
 restored e =
-    channel_with e.config (flags_of false false false false false) (timer (pos 0)) (timer (pos 0)) e.out_preset_lem e.fb_preset_lem
+    channel_with e.config (flags_of false false false false false) (timer (pos 0)) (timer (pos 0)) e.out_preset e.fb_preset
     (record { out = realZero; min = e.min; max = e.max }) (record { act = no_bits; his = no_bits })
     e.counter e.operating 0 e.user e.reals e.maintenance no_windows (record { counter = e.counter; operating = e.operating; user = e.user })
 
@@ -41,7 +41,7 @@ restored_data d = data_channel_with d.reals d.reals (timers_of (timer (pos 0)) (
 -- the box that kept values give at power-up; WDTimer starts at WDPreset
 unfoldable pub powered_up : Setup → Module
 powered_up s =
-    module_of (restored_shared s.module_config_lem s.wd_preset_lem) (service_of s.wd_preset_lem no_service_bits his_after_power_up) (map restored s.entries)
+    module_of (restored_shared s.module_config s.wd_preset) (service_of s.wd_preset no_service_bits his_after_power_up) (map restored s.entries)
     (restored_data s.data_kept)
 
 -- Questions 17: the settings that a refused power-up takes

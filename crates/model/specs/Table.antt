@@ -20,8 +20,8 @@ abbrev pub first_entry : ℕ → ℕ → Entry
 first_entry functions preset =
     record {
       config = config 0 functions 0 0;
-      fb_preset_lem = timer (pos 0);
-      out_preset_lem = timer (pos preset);
+      fb_preset = timer (pos 0);
+      out_preset = timer (pos preset);
       min = realZero;
       max = realZero;
       reals = replicate 8 0;
@@ -35,8 +35,8 @@ abbrev pub box_with : ℕ → ℕ → Module
 box_with functions preset =
     powered_up
     (record {
-      module_config_lem = config 0 0x10 0 0;
-      wd_preset_lem = timer (pos 0);
+      module_config = config 0 0x10 0 0;
+      wd_preset = timer (pos 0);
       entries = first_entry functions preset ∷ replicate 15 no_entry;
       data_kept = zero_data;
     })

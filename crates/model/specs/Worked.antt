@@ -42,21 +42,21 @@ pub record Case : Type 0 where
 
 -- DataError and GeneralError: no error; none but in history; one that stands
 pub record Bits : Type 0 where
-  pub data_error_lem : Bool
-  pub general_error_lem : Bool
+  pub data_error : Bool
+  pub general_error : Bool
 
 abbrev pub calm : Bits
-calm = record { data_error_lem = false; general_error_lem = false }
+calm = record { data_error = false; general_error = false }
 
 abbrev pub past : Bits
-past = record { data_error_lem = false; general_error_lem = true }
+past = record { data_error = false; general_error = true }
 
 abbrev pub present : Bits
-present = record { data_error_lem = true; general_error_lem = true }
+present = record { data_error = true; general_error = true }
 
 abbrev pub answering : ℕ → ℕ → List ℕ → Bits → Answer
 answering n len buf b =
-    record { number = n; length = len; buffer = buf; data_error_lem = b.data_error_lem; general_error_lem = b.general_error_lem; real_bits_of = 0 }
+    record { number = n; length = len; buffer = buf; data_error = b.data_error; general_error = b.general_error; real_bits = 0 }
 
 -- one list after another
 infixr 20 ◌then◌
@@ -120,15 +120,15 @@ abbrev pub config_of : ℕ → Config
 config_of n = record { enablebit = n / 16777216; functions = n / 65536 % 256; ref_a = n / 256 % 256; ref_b = n % 256 }
 
 abbrev pub box_of : ℕ → ℕ → List Entry → Module
-box_of g preset es = powered_up (record { module_config_lem = config_of g; wd_preset_lem = timer (pos preset); entries = es; data_kept = zero_data })
+box_of g preset es = powered_up (record { module_config = config_of g; wd_preset = timer (pos preset); entries = es; data_kept = zero_data })
 
 -- an entry: ChConfig's four bytes, the counts of FBPreset and OutPreset, MinCurrent and MaxCurrent; the other registers 0
 abbrev pub limited : ℕ → ℕ → ℕ → ℕ → ℕ → Entry
 limited g fb out low high =
     record {
       config = config_of g;
-      fb_preset_lem = timer (pos fb);
-      out_preset_lem = timer (pos out);
+      fb_preset = timer (pos fb);
+      out_preset = timer (pos out);
       min = of_bits binary32 low;
       max = of_bits binary32 high;
       reals = replicate 8 0;
@@ -149,8 +149,8 @@ abbrev pub own_entry : Entry
 own_entry =
     record {
       config = config_of 0x0010_0203;
-      fb_preset_lem = timer (pos 0x0005_0607);
-      out_preset_lem = timer (pos 0x0009_0A0B);
+      fb_preset = timer (pos 0x0005_0607);
+      out_preset = timer (pos 0x0009_0A0B);
       min = of_bits binary32 0x3E00_0000;
       max = of_bits binary32 0x3F00_0000;
       reals = words (0xC1C2_C3C4 ∷ 0xC5C6_C7C8 ∷ []);

@@ -31,7 +31,7 @@ use Rattle.model.specs.Settings.{bit}
 use Rattle.model.specs.Channel.{acknowledged, simulate, take_current, flag_reg_written, out_flags_written, ch_config_written}
 use Rattle.model.specs.Channel.{keep_counter, keep_operating, keep_user}
 use Rattle.model.specs.Errors.{service_acknowledged}
-use Rattle.model.specs.Registers.{Place, service, digital, common, data_channel_lem, unlisted}
+use Rattle.model.specs.Registers.{Place, service, digital, common, data_channel, unlisted}
 use Rattle.model.specs.Image.{config_from, config_allowed, module_config_allowed, entry_of, real_allowed, table_allowed, table_from, data_of}
 use Rattle.model.specs.Restored.{restored, restored_shared, restored_data, no_service_bits, his_after_reset}
 
@@ -81,7 +81,7 @@ abbrev pub allowed : Place → List ℕ → Bool
 allowed (service r) bs = service_allowed r bs
 allowed (digital k r) bs = digital_allowed r bs
 allowed (common r) bs = true
-allowed (data_channel_lem r) bs = data_allowed r bs
+allowed (data_channel r) bs = data_allowed r bs
 allowed unlisted bs = true
 
 -- ---- Change 5, 2: the counts that allowed Reals give
@@ -198,5 +198,5 @@ unfoldable pub written : Place → List ℕ → Module → Module
 written (service r) bs m = service_written r bs m
 written (digital k r) bs m = put_channel k (digital_written r m.shared bs (channel_at m k)) m
 written (common r) bs m = with_channels (each (common_written r bs) 0 m.channels) m
-written (data_channel_lem r) bs m = with_data (data_written r m.shared bs (data_channel_of m)) m
+written (data_channel r) bs m = with_data (data_written r m.shared bs (data_channel_of m)) m
 written unlisted bs m = m

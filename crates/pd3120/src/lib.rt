@@ -1,5 +1,7 @@
 // The PD 3120 channel box: every call on it. A box goes in by value and comes back by value; the
 // bytes of a wire call stand in slices beside it. No function asks anything of its caller.
+#![tactic(auto)]
+
 ghost use Rattle.std.specs.Prelude.{◌≡◌, []};
 ghost use Rattle.model.specs.Errors.{data_error_of, general_error_of};
 ghost use Rattle.model.specs.Registers.{place};
@@ -21,14 +23,14 @@ use model::{Call, Channel, DataChannel, Module, Reply, Service, Shared};
 use writes::Begun;
 
 // What power-up answers, and the box.
-#[derive(Drop)]
+#[derive(Clone, Copy)]
 pub struct Started {
     pub after: Module,
     pub reply: Reply,
 }
 
 // What a call answers, and the box that it leaves. real_bits are a lookup's, and 0 of any other call.
-#[derive(Drop)]
+#[derive(Clone, Copy)]
 pub struct Answered {
     pub after: Module,
     pub reply: Reply,
@@ -39,7 +41,7 @@ pub struct Answered {
 
 // What a read answers, and the two parts of the box that it may change: the service record and the
 // SWNo's channel.
-#[derive(Drop)]
+#[derive(Clone, Copy)]
 pub struct Changed {
     pub service: Service,
     pub channel: Channel,
@@ -49,14 +51,14 @@ pub struct Changed {
 }
 
 // DataError and GeneralError.
-#[derive(Drop)]
+#[derive(Clone, Copy)]
 pub struct WireBits {
     pub data_error: bool,
     pub general_error: bool,
 }
 
 // What a sample or a call of opening hours answers, and the box that it leaves.
-#[derive(Drop)]
+#[derive(Clone, Copy)]
 pub struct Sampled {
     pub after: Module,
     pub reply: Reply,

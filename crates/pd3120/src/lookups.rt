@@ -6,7 +6,7 @@ ghost use Rattle.pd3120.specs.Parts.{LookedUpBy};
 use model::{DataChannel, Reply};
 
 // What a lookup answers: its Real by its bits, 0 where it is refused.
-#[derive(Drop)]
+#[derive(Clone, Copy)]
 pub struct LookedUp {
     pub reply: Reply,
     pub bits: u32,

@@ -9,7 +9,7 @@ use crate::samples::Taken;
 use model::{Channel, Reply, Shared};
 
 // What setting the minute answers, and the shared record that it leaves.
-#[derive(Drop)]
+#[derive(Clone, Copy)]
 pub struct MinuteSet {
     pub after: Shared,
     pub reply: Reply,

@@ -7,7 +7,7 @@ ghost use Rattle.pd3120.specs.Parts.{SampleBy};
 use model::{Channel, Reply, Shared};
 
 // What a sample answers, and the channel that it leaves.
-#[derive(Drop)]
+#[derive(Clone, Copy)]
 pub struct Taken {
     pub after: Channel,
     pub reply: Reply,

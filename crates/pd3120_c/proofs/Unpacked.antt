@@ -17,17 +17,17 @@ size n s true false h k = omega (arith, h, k)
 size n s false true h k = omega (arith, h, k)
 size n s false false h k = omega (arith, h, k)
 
-data_error_lem : (n s : ℕ) (d g : Bool) → n < 256 → s < 65536 → packed n s d g / 16777216 % 2 ≡ cond d 1 0
-data_error_lem n s true true h k = omega (arith, h, k)
-data_error_lem n s true false h k = omega (arith, h, k)
-data_error_lem n s false true h k = omega (arith, h, k)
-data_error_lem n s false false h k = omega (arith, h, k)
+data_error : (n s : ℕ) (d g : Bool) → n < 256 → s < 65536 → packed n s d g / 16777216 % 2 ≡ cond d 1 0
+data_error n s true true h k = omega (arith, h, k)
+data_error n s true false h k = omega (arith, h, k)
+data_error n s false true h k = omega (arith, h, k)
+data_error n s false false h k = omega (arith, h, k)
 
-general_error_lem : (n s : ℕ) (d g : Bool) → n < 256 → s < 65536 → packed n s d g / 33554432 ≡ cond g 1 0
-general_error_lem n s true true h k = omega (arith, h, k)
-general_error_lem n s true false h k = omega (arith, h, k)
-general_error_lem n s false true h k = omega (arith, h, k)
-general_error_lem n s false false h k = omega (arith, h, k)
+general_error : (n s : ℕ) (d g : Bool) → n < 256 → s < 65536 → packed n s d g / 33554432 ≡ cond g 1 0
+general_error n s true true h k = omega (arith, h, k)
+general_error n s true false h k = omega (arith, h, k)
+general_error n s false true h k = omega (arith, h, k)
+general_error n s false false h k = omega (arith, h, k)
 
 level_number : (n b : ℕ) → b < 4294967296 → packed_level n b / 4294967296 ≡ n
 level_number n b h = omega (arith, h)
@@ -40,8 +40,8 @@ unpacks =
     record {
       number = number;
       size = size;
-      data_error_lem = data_error_lem;
-      general_error_lem = general_error_lem;
+      data_error = data_error;
+      general_error = general_error;
       level_number = level_number;
       level_bits_lem = level_bits_lem;
     }

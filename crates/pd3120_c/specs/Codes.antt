@@ -27,7 +27,7 @@ use Rattle.pd3120_c.specs.declared.WriteBegun.{WriteBegun}
 
 -- ---- codes: bits 0 to 7 the number, bits 8 to 23 the length, bit 24 DataError, bit 25 GeneralError
 abbrev pub packed : ℕ → ℕ → Bool → Bool → ℕ
-packed number size data_error_lem general_error_lem = number + size * 256 + cond data_error_lem 16777216 0 + cond general_error_lem 33554432 0
+packed number size data_error general_error = number + size * 256 + cond data_error 16777216 0 + cond general_error 33554432 0
 
 -- a lookup's: bits 0 to 31 those of its Real, bits 32 to 39 the number
 abbrev pub packed_level : ℕ → ℕ → ℕ
@@ -37,19 +37,19 @@ packed_level number bits = bits + number * 4294967296
 pub record Unpacks : Type 0 where
   pub number : (n s : ℕ) (d g : Bool) → n < 256 → packed n s d g % 256 ≡ n
   pub size : (n s : ℕ) (d g : Bool) → n < 256 → s < 65536 → packed n s d g / 256 % 65536 ≡ s
-  pub data_error_lem : (n s : ℕ) (d g : Bool) → n < 256 → s < 65536 → packed n s d g / 16777216 % 2 ≡ cond d 1 0
-  pub general_error_lem : (n s : ℕ) (d g : Bool) → n < 256 → s < 65536 → packed n s d g / 33554432 ≡ cond g 1 0
+  pub data_error : (n s : ℕ) (d g : Bool) → n < 256 → s < 65536 → packed n s d g / 16777216 % 2 ≡ cond d 1 0
+  pub general_error : (n s : ℕ) (d g : Bool) → n < 256 → s < 65536 → packed n s d g / 33554432 ≡ cond g 1 0
   pub level_number : (n b : ℕ) → b < 4294967296 → packed_level n b / 4294967296 ≡ n
   pub level_bits_lem : (n b : ℕ) → b < 4294967296 → packed_level n b % 4294967296 ≡ b
 
 abbrev pub reply_code : Reply → Bool → Bool → ℕ
-reply_code r data_error_lem general_error_lem = packed (number_of r) (length_of r) data_error_lem general_error_lem
+reply_code r data_error general_error = packed (number_of r) (length_of r) data_error general_error
 
 abbrev pub answer_code : Answer → ℕ
-answer_code a = packed a.number a.length a.data_error_lem a.general_error_lem
+answer_code a = packed a.number a.length a.data_error a.general_error
 
 abbrev pub look_up_code : Answer → ℕ
-look_up_code a = packed_level a.number a.real_bits_of
+look_up_code a = packed_level a.number a.real_bits
 
 -- ---- what the caller has after a call: m' in its module, code as the answer, lent' in its buffer
 abbrev pub Left : Stepped → Module → ℕ → Type 0

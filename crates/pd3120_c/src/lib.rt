@@ -1,6 +1,8 @@
 // The C boundary of the box: every call under a C name, over a module in the caller's memory. A
 // wire call's bytes stand in the caller's buffer, and its answer is one number (specs/Codes.antt).
 // No function asks anything of its caller beyond what a reference itself carries.
+#![tactic(auto)]
+
 ghost use Rattle.std.specs.Prelude.{◌≡◌};
 ghost use Rattle.model.specs.Calls.{read, write, sample, look_up, minute, windows, step};
 ghost use Rattle.pd3120.specs.Answers.{output_at};
@@ -14,28 +16,28 @@ use pd3120::samples;
 use registers::Place;
 
 // The module that a call leaves, and the code of its answer.
-#[derive(Drop)]
+#[derive(Clone, Copy)]
 pub struct Done {
     pub after: Module,
     pub code: u32,
 }
 
 // The channel that a sample, or windows for it, leave, and the code of the answer.
-#[derive(Drop)]
+#[derive(Clone, Copy)]
 pub struct ChannelDone {
     pub after: Channel,
     pub code: u32,
 }
 
 // The shared record that a minute leaves, and the code of its answer.
-#[derive(Drop)]
+#[derive(Clone, Copy)]
 pub struct SharedDone {
     pub after: Shared,
     pub code: u32,
 }
 
 // The two parts of the module that a read may change, and the code of its answer.
-#[derive(Drop)]
+#[derive(Clone, Copy)]
 pub struct ReadDone {
     pub service: Service,
     pub channel: Channel,
@@ -44,7 +46,7 @@ pub struct ReadDone {
 
 // The parts of the module that a write changes first, how many channels it then comes to, the number
 // of its answer, whether it comes to the data channel, and what it does to each of these channels.
-#[derive(Drop)]
+#[derive(Clone, Copy)]
 pub struct WriteBegun {
     pub shared: Shared,
     pub service: Service,

@@ -14,7 +14,7 @@ use script::{lines, words};
 const HALF: usize = 32768;
 
 // The box, the number of lines so far, and whether the line that has begun is too long.
-#[derive(Drop)]
+#[derive(Clone, Copy)]
 pub struct Player {
     pub after: Module,
     pub line: u64,
@@ -22,7 +22,7 @@ pub struct Player {
 }
 
 // The player after a line, and the place after its answer.
-#[derive(Drop)]
+#[derive(Clone, Copy)]
 struct Next {
     player: Player,
     to: usize,
@@ -105,7 +105,7 @@ fn flush(out: &[u8], to: usize) -> usize
 }
 
 // The player after the lines of a text that have ended, and how many bytes those are.
-#[derive(Drop)]
+#[derive(Clone, Copy)]
 struct Ran {
     player: Player,
     used: usize,
@@ -158,7 +158,7 @@ fn move_down(text: &mut [u8], from: usize, end: usize)
 }
 
 // The player after a turn, the bytes that wait, and whether more may come.
-#[derive(Drop)]
+#[derive(Clone, Copy)]
 pub struct Turn {
     pub player: Player,
     pub have: usize,

@@ -1,5 +1,7 @@
 // Plays a script of calls: it reads calls from standard input, one a line, makes them on one box,
 // and writes a line a call to standard output. README.md has the format.
+#![tactic(auto)]
+
 mod answers;
 mod calls;
 mod input;

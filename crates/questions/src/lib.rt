@@ -1,5 +1,7 @@
 // The questions of wire calls, samples and lookups, and in `opening` those of opening hours, in order:
 // each answer is the refusal of the first question whose answer is no, or what is done.
+#![tactic(auto)]
+
 ghost use Rattle.std.specs.Prelude.{◌≡◌};
 ghost use Rattle.model.specs.Settings.{is_digital};
 ghost use Rattle.model.specs.Questions.{question1, question2, question3, question4, question6, read_reply, write_reply, sample_reply, look_up_reply};

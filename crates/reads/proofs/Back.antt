@@ -9,7 +9,7 @@ use Rattle.model.specs.declared.Module.{Module}
 use Rattle.model.specs.declared.Reply.{Reply}
 use Rattle.model.specs.declared.Reply.TheVariants.{Done, Refused}
 use Rattle.model.specs.State.{nothing, channel_at}
-use Rattle.model.specs.Registers.{Place, place, service, digital, common, data_channel_lem, unlisted}
+use Rattle.model.specs.Registers.{Place, place, service, digital, common, data_channel, unlisted}
 use Rattle.model.specs.Reads.{digital_read, after_read}
 use Rattle.model.specs.Calls.{read_leaves}
 use Rattle.model.specs.Questions.{read_reply}
@@ -24,7 +24,7 @@ unfolding after_read
 service-left (service r) m = refl
 service-left (digital k r) m = refl
 service-left (common r) m = refl
-service-left (data_channel_lem r) m = refl
+service-left (data_channel r) m = refl
 service-left unlisted m = refl
 
 pub channel-left : (p : Place) (i : ℕ) (m : Module) → OfChannel i p → i < length m.channels
@@ -35,7 +35,7 @@ channel-left (digital k r) i m o h =
     let l : k - 1 < length m.channels = omega arith in
     rw (o, get_or-set_same m.channels (k - 1) (digital_read r (channel_at m k)) nothing l)
 channel-left (common r) i m o h = refl
-channel-left (data_channel_lem r) i m o h = refl
+channel-left (data_channel r) i m o h = refl
 channel-left unlisted i m o h = refl
 
 -- ---- put back, they are the box
@@ -47,7 +47,7 @@ after-back (digital k r) i m o h =
     let l : k - 1 < length m.channels = omega arith in
     rw (o, get_or-set_same m.channels (k - 1) (digital_read r (channel_at m k)) nothing l)
 after-back (common r) i m o h = rw (set-get_or m.channels i nothing)
-after-back (data_channel_lem r) i m o h = rw (set-get_or m.channels i nothing)
+after-back (data_channel r) i m o h = rw (set-get_or m.channels i nothing)
 after-back unlisted i m o h = rw (set-get_or m.channels i nothing)
 
 leaves-back : (r : Reply) (p : Place) (i : ℕ) (m : Module) → OfChannel i p → i < length m.channels

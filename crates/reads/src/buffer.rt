@@ -7,7 +7,7 @@ ghost use Rattle.reads.specs.Held.{width, held};
 pub const WIDTH: usize = 12;
 
 // The first len of bytes are the register's, the rest are 0.
-#[derive(Drop)]
+#[derive(Clone, Copy)]
 pub struct RegisterBytes {
     pub bytes: [u8; WIDTH],
     pub len: usize,

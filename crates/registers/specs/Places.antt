@@ -10,7 +10,7 @@ abbrev pub placed : Place → Table.Place
 placed (Service r) = Table.service r
 placed (Digital k r) = Table.digital k r
 placed (Common r) = Table.common r
-placed (Data r) = Table.data_channel_lem r
+placed (Data r) = Table.data_channel r
 placed Unlisted = Table.unlisted
 
 -- ---- the place of channel k among the sixteen, counted from 0; that of channel 1 where k is no channel's number
@@ -22,5 +22,5 @@ abbrev pub OfChannel : ℕ → Table.Place → Type 0
 OfChannel i (Table.service r) = Unit {0}
 OfChannel i (Table.digital k r) = i ≡ k - 1
 OfChannel i (Table.common r) = Unit {0}
-OfChannel i (Table.data_channel_lem r) = Unit {0}
+OfChannel i (Table.data_channel r) = Unit {0}
 OfChannel i Table.unlisted = Unit {0}

@@ -1,5 +1,7 @@
 // The register table: what a SWNo names, and each register's access and size. Nothing above this
 // crate sees a register's number.
+#![tactic(auto)]
+
 ghost use Rattle.std.specs.Prelude.{◌≡◌, ◌/◌, ◌<◌};
 ghost use Rattle.model.specs.Registers as Table;
 ghost use Rattle.model.specs.Questions.{is_writable, is_protected};
@@ -9,7 +11,7 @@ use model::{Access, CommonRegister, DataRegister, DigitalRegister, ServiceRegist
 
 // A register of the service channel, of a digital channel by its number, of the common or of the
 // data channel; or none that is listed.
-#[derive(Drop)]
+#[derive(Clone, Copy)]
 pub enum Place {
     Service(ServiceRegister),
     Digital(u8, DigitalRegister),
@@ -70,7 +72,7 @@ fn common_place(n: u16) -> Place
 }
 
 fn data_place(n: u16) -> Place
-    ensures { placed result ≡ Table.find Table.data-channel Table.data_row n Table.data_registers }
+    ensures { placed result ≡ Table.find Table.data_channel Table.data_row n Table.data_registers }
 {
     match n {
         0x0 => Place::Data(DataRegister::RealA),

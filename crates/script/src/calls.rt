@@ -12,7 +12,7 @@ const LONGEST_STORE: u64 = 4096;
 // What a line asks for. The bytes of an image, a write or a lent buffer stand beside it, and so do
 // the blocks of a charge, of which the line itself has the bits of two counters and the litres, and
 // a channel's windows.
-#[derive(Drop)]
+#[derive(Clone, Copy)]
 pub enum Line {
     Empty,
     Error(Wrong),
@@ -30,7 +30,7 @@ pub enum Line {
 }
 
 // The blocks of a charge: how many there are, and the limits and prices of the first.
-#[derive(Drop)]
+#[derive(Clone, Copy)]
 pub struct Blocks {
     pub count: u32,
     pub limits: [u64; 3],
@@ -47,7 +47,7 @@ pub(crate) fn no_blocks() -> Blocks {
 
 // The windows of a channel: how many there are, and each as the box takes it, its start in the high
 // half of the number and its end in the low half.
-#[derive(Drop)]
+#[derive(Clone, Copy)]
 pub struct Windows {
     pub count: usize,
     pub numbers: [u32; 16],
@@ -69,7 +69,7 @@ pub fn window_count(w: Windows) -> usize
 }
 
 // A line, how many bytes it has put at the start of the lent space, its blocks and its windows.
-#[derive(Drop)]
+#[derive(Clone, Copy)]
 pub struct Parsed {
     pub line: Line,
     pub n: usize,

@@ -29,7 +29,7 @@ fn with_price(b: Blocks, j: usize, price: u32) -> Blocks {
 }
 
 // The blocks with one word more, or why that is no number.
-#[derive(Drop)]
+#[derive(Clone, Copy)]
 struct Taken {
     right: bool,
     why: Wrong,
@@ -85,7 +85,7 @@ fn take_blocks(text: &[u8], n: usize) -> Taken {
 }
 
 // The three words before the blocks, or why one is no number.
-#[derive(Drop)]
+#[derive(Clone, Copy)]
 struct Counts {
     right: bool,
     why: Wrong,

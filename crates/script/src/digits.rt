@@ -26,7 +26,7 @@ pub fn only_digits(word: &[u8], base: u8) -> bool {
 }
 
 // A number, and whether it is at most the highest allowed; 0 where it is not.
-#[derive(Drop)]
+#[derive(Clone, Copy)]
 pub struct Number {
     pub fits: bool,
     pub value: u64,

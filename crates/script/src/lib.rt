@@ -1,6 +1,8 @@
 // Scripts of calls as text: what a line asks for, and how an answer is written. Nothing here knows
 // the box. Every function is safe and ends; what it answers is compared with an independent player
 // by running.
+#![tactic(auto)]
+
 pub mod calls;
 mod charges;
 mod digits;

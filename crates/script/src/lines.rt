@@ -9,7 +9,7 @@ use crate::{calls, charges, windows, words};
 pub const LONGEST_LINE: usize = 16384;
 
 // The names of calls.
-#[derive(Drop)]
+#[derive(Clone, Copy)]
 enum Name {
     Power,
     Store,

@@ -4,7 +4,7 @@ ghost use Rattle.std.specs.Prelude.{◌≤◌, length};
 use crate::{digits, words};
 
 // Why a line is no call.
-#[derive(Drop)]
+#[derive(Clone, Copy)]
 pub enum Wrong {
     LineTooLong,
     UnknownCall,
@@ -17,7 +17,7 @@ pub enum Wrong {
 }
 
 // A word's number, or why it is none.
-#[derive(Drop)]
+#[derive(Clone, Copy)]
 pub struct Parameter {
     pub right: bool,
     pub why: Wrong,

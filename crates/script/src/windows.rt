@@ -26,7 +26,7 @@ pub(crate) fn parse_minute(count: usize, word: &[u8]) -> Parsed
 }
 
 // A window as one number, or why a word of it is none.
-#[derive(Drop)]
+#[derive(Clone, Copy)]
 struct Window {
     right: bool,
     why: Wrong,

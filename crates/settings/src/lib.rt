@@ -1,5 +1,7 @@
 // What a channel's settings say: Functions, Enablebit, references, InA and InB, Output. ChConfig is
 // held as its bytes, and decoded here, where it acts.
+#![tactic(auto)]
+
 ghost use Rattle.std.specs.Prelude.{◌≡◌};
 ghost use Rattle.model.specs.Settings.{bit, function_of, not_input, is_special, reference_of, is_set, functions, ref_a, ref_b_of, has_reference, simulates_input};
 ghost use Rattle.model.specs.Settings.{simulates_feedback, enables_underload, silences_overload, level_of, in_a, in_b_of, output};

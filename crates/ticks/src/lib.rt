@@ -1,5 +1,7 @@
 // The whole tick, 1/32 s: it begins with step 1 on the shared record and the watchdog, and then goes
 // over the data channel, and over the channels, each by itself against the InFlags of the tick's start.
+#![tactic(auto)]
+
 ghost use Rattle.std.specs.Prelude.{◌≡◌, cond, map};
 ghost use Rattle.model.specs.State.{in_flag_of};
 ghost use Rattle.model.specs.Errors.{bit_value, word_of};
@@ -14,7 +16,7 @@ use model::{Channel, DataChannel, DataTimers, Module, Service, Shared};
 // What a tick has worked out when it comes to the channels: the shared record and the service record
 // after step 1, how many channels it saves in the end (all or none), whether the watchdog ran out,
 // and, where it looks at the feedback, the InFlags, bit k-1 for channel k.
-#[derive(Drop)]
+#[derive(Clone, Copy)]
 pub struct Begun {
     pub shared: Shared,
     pub service: Service,

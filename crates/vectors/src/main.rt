@@ -1,5 +1,7 @@
 // Converts a list of words. Each line of standard input is 12 bytes, `KK WWWWWWWW`: a kind of two letters and a word of eight
 // hexadecimal digits. It is written back with the word's answer, `KK WWWWWWWW AAAAAAAA`.
+#![tactic(auto)]
+
 mod answer;
 mod convert;
 mod reply;

@@ -15,7 +15,7 @@ use Rattle.model.specs.declared.ServiceRegister.{ServiceRegister}
 use Rattle.model.specs.declared.ServiceRegister.TheVariants.{Highest, Reset, FreeRunTimer, WDTimer, ModuleConfig, WDPreset, WriteEnable, CommonError}
 use Rattle.model.specs.State.{write_enable_of, data_channel_of, module_of, nothing}
 use Rattle.model.specs.Settings.{bit}
-use Rattle.model.specs.Registers.{Place, service, digital, common, data_channel_lem, unlisted, place}
+use Rattle.model.specs.Registers.{Place, service, digital, common, data_channel, unlisted, place}
 use Rattle.model.specs.Writes.{shared_written, errors_written, every_written, data_reset, digital_written, bit_written, data_written, each}
 use Rattle.model.specs.Questions.{write_reply}
 use Rattle.registers.specs.Places.{placed, slot_of}
@@ -27,21 +27,21 @@ abbrev pub shared_after : Place → List ℕ → Shared → Shared
 shared_after (service r) bs s = shared_written r bs s
 shared_after (digital k r) bs s = s
 shared_after (common r) bs s = s
-shared_after (data_channel_lem r) bs s = s
+shared_after (data_channel r) bs s = s
 shared_after unlisted bs s = s
 
 abbrev pub service_after : Place → Service → Service
 service_after (service r) v = errors_written r v
 service_after (digital k r) v = v
 service_after (common r) v = v
-service_after (data_channel_lem r) v = v
+service_after (data_channel r) v = v
 service_after unlisted v = v
 
 abbrev pub channel_after : Place → Shared → List ℕ → Channel → Channel
 channel_after (service r) s bs ch = ch
 channel_after (digital k r) s bs ch = digital_written r s bs ch
 channel_after (common r) s bs ch = ch
-channel_after (data_channel_lem r) s bs ch = ch
+channel_after (data_channel r) s bs ch = ch
 channel_after unlisted s bs ch = ch
 
 -- ---- the data channel: of an accepted write; of one that is done or refused; and of a write of bs to SWNo n
@@ -49,7 +49,7 @@ abbrev pub data_after : Place → Shared → List ℕ → DataChannel → DataCh
 data_after (service r) s bs d = data_reset r d
 data_after (digital k r) s bs d = d
 data_after (common r) s bs d = d
-data_after (data_channel_lem r) s bs d = data_written r s bs d
+data_after (data_channel r) s bs d = data_written r s bs d
 data_after unlisted s bs d = d
 
 abbrev pub data_left : Reply → Place → Shared → List ℕ → DataChannel → DataChannel
@@ -74,7 +74,7 @@ abbrev pub count_of : Place → ℕ
 count_of (service r) = service_count r
 count_of (digital k r) = 0
 count_of (common r) = 16
-count_of (data_channel_lem r) = 0
+count_of (data_channel r) = 0
 count_of unlisted = 0
 
 -- whether it comes to the data channel: a data register does, and a service register that comes to every channel may
@@ -82,21 +82,21 @@ abbrev pub of_data_of : Place → Bool
 of_data_of (service r) = ltb 0 (service_count r)
 of_data_of (digital k r) = false
 of_data_of (common r) = false
-of_data_of (data_channel_lem r) = true
+of_data_of (data_channel r) = true
 of_data_of unlisted = false
 
 abbrev pub written_word : Place → List ℕ → ℕ
 written_word (service r) bs = 0
 written_word (digital k r) bs = 0
 written_word (common r) bs = number bs
-written_word (data_channel_lem r) bs = 0
+written_word (data_channel r) bs = 0
 written_word unlisted bs = 0
 
 abbrev pub each_written : Place → ℕ → ℕ → Channel → Channel
 each_written (service r) w i ch = every_written r ch
 each_written (digital k r) w i ch = ch
 each_written (common r) w i ch = bit_written r (bit i w) ch
-each_written (data_channel_lem r) w i ch = ch
+each_written (data_channel r) w i ch = ch
 each_written unlisted w i ch = ch
 
 -- the first n channels with f of their place, the others as they are

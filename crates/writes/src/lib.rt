@@ -2,6 +2,8 @@
 // the shared record, the service record and the SWNo's own channel first, and then, where the
 // register asks for it, the data channel and every channel in turn. The clearing and the preset of a
 // wire call stand around it.
+#![tactic(auto)]
+
 ghost use Rattle.std.specs.Prelude.{◌≡◌, ◌≤◌};
 ghost use Rattle.registers.specs.Places.{placed};
 ghost use Rattle.writes.specs.Accepted.{Accepted, write_of};
@@ -19,7 +21,7 @@ use model::{Channel, DataChannel, Module, Reply, Service, Shared};
 use registers::Place;
 
 // What a write answers, and the box that it leaves.
-#[derive(Drop)]
+#[derive(Clone, Copy)]
 pub struct Written {
     pub reply: Reply,
     pub after: Module,
@@ -28,7 +30,7 @@ pub struct Written {
 // What a write has done before it comes to every channel: its answer, the records and the SWNo's
 // own channel. `each` is then to be asked for the first count channels, with the place and the word,
 // and `data_after` where of_data; elsewhere the data channel stays.
-#[derive(Drop)]
+#[derive(Clone, Copy)]
 pub struct Begun {
     pub reply: Reply,
     pub shared: Shared,

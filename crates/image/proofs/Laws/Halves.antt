@@ -14,7 +14,7 @@ pub regrouped : (a b c d e : List ℕ) → ((a ++ b) ++ (c ++ d)) ++ e ≡ a ++ 
 regrouped a b c d e = simp append_assoc
 
 pub first-five : (e : Entry) →
-    config_bytes e.config ++ (signed_bytes 4 e.fb_preset_lem.0 ++ (signed_bytes 4 e.out_preset_lem.0 ++ (real_bytes e.min ++ real_bytes e.max)))
+    config_bytes e.config ++ (signed_bytes 4 e.fb_preset.0 ++ (signed_bytes 4 e.out_preset.0 ++ (real_bytes e.min ++ real_bytes e.max)))
     ≡ first_five e
 unfolding first_five entry_bytes signed_bytes bytes_of real_bytes
 first-five e = refl

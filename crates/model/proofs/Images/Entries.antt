@@ -31,8 +31,8 @@ pub record Counted (counter : ℤ) (operating : OperatingCount) (user : List ℕ
 -- an entry's values in their ranges
 pub record Held (e : Entry) : Type 0 where
   pub config : T (config_allowed (config_bytes e.config))
-  pub feedback : Preset e.fb_preset_lem.0
-  pub out : Preset e.out_preset_lem.0
+  pub feedback : Preset e.fb_preset.0
+  pub out : Preset e.out_preset.0
   pub min : Limit e.min
   pub max : Limit e.max
   pub reals : length e.reals ≡ 8
@@ -143,8 +143,8 @@ module _ (e : Entry) (h : Held e) where
   pub entry-back : entry_from (entry_bytes e) ≡ e
   unfolding entry_from entry_bytes signed_bytes real_bytes bytes_of
   entry-back =
-      let feedback = signed_back e.fb_preset_lem.0 h.feedback.fits in
-      let out = signed_back e.out_preset_lem.0 h.out.fits in
+      let feedback = signed_back e.fb_preset.0 h.feedback.fits in
+      let out = signed_back e.out_preset.0 h.out.fits in
       let min = limit-back e.min h.min in
       let max = limit-back e.max h.max in
       let reals = take_at e.reals (e.maintenance ++ (e.user ++ (signed_bytes 4 e.counter ++ bytes_of 4 e.operating.0))) 8 h.reals in
@@ -156,8 +156,8 @@ module _ (e : Entry) (h : Held e) where
       λ i.
       record {
         config = e.config;
-        fb_preset_lem = record { 0 = feedback i };
-        out_preset_lem = record { 0 = out i };
+        fb_preset = record { 0 = feedback i };
+        out_preset = record { 0 = out i };
         min = min i;
         max = max i;
         reals = reals i;
@@ -172,8 +172,8 @@ module _ (e : Entry) (h : Held e) where
   unfolding entry_allowed entry_bytes signed_bytes real_bytes bytes_of
   entry-allowed =
       join (config_allowed (config_bytes e.config)) _ h.config
-      (join (preset_count_allowed (signed_bytes 4 e.fb_preset_lem.0)) _ h.feedback.allowed
-      (join (preset_count_allowed (signed_bytes 4 e.out_preset_lem.0)) _ h.out.allowed
+      (join (preset_count_allowed (signed_bytes 4 e.fb_preset.0)) _ h.feedback.allowed
+      (join (preset_count_allowed (signed_bytes 4 e.out_preset.0)) _ h.out.allowed
       (join (limit_allowed (real_from (real_bytes e.min))) _ (rw (limit-back e.min h.min) h.min.allowed)
       (rw (limit-back e.max h.max) h.max.allowed))))
 

@@ -35,8 +35,8 @@ use Rattle.model.proofs.Images.Sequence.{AllHeld, entries-again, entries-held, e
 
 -- a setup's values in their ranges
 pub record SetupHeld (s : Setup) : Type 0 where
-  pub config : T (module_config_allowed (config_bytes s.module_config_lem))
-  pub preset : Preset s.wd_preset_lem.0
+  pub config : T (module_config_allowed (config_bytes s.module_config))
+  pub preset : Preset s.wd_preset.0
   pub count : length s.entries ≡ 16
   pub entries : AllHeld s.entries
   pub data_kept : DataHeld s.data_kept
@@ -90,7 +90,7 @@ module _ (s : Setup) (h : SetupHeld s) where
   unfolding all_allowed module_allowed signed_bytes bytes_of
   of-allowed =
       let rows = rw (h.count, append-nil) at (entries-allowed s.entries [] h.entries) in
-      join (module_allowed (module_bytes s)) _ (join (module_config_allowed (config_bytes s.module_config_lem)) _ h.config h.preset.allowed)
+      join (module_allowed (module_bytes s)) _ (join (module_config_allowed (config_bytes s.module_config)) _ h.config h.preset.allowed)
       (join (entries_allowed 16 (entries_bytes s.entries)) _ rows
       (join (kept_allowed (kept_bytes s.data_kept)) _ (data-fine s.data_kept h.data_kept) tt))
 
@@ -98,11 +98,11 @@ module _ (s : Setup) (h : SetupHeld s) where
   of-back : setup_from (contents_of s) ≡ s
   unfolding setup_from signed_bytes bytes_of
   of-back =
-      let preset = signed_back s.wd_preset_lem.0 h.preset.fits in
+      let preset = signed_back s.wd_preset.0 h.preset.fits in
       let entries : entries_from 16 (entries_bytes s.entries) ≡ s.entries =
       ap (λ (n : ℕ). entries_from n (entries_bytes s.entries)) (sym h.count) ∙ (rw append-nil at (entries-back s.entries [] h.entries)) in
       let held = data-back s.data_kept h.data_kept in
-      λ i. record { module_config_lem = s.module_config_lem; wd_preset_lem = record { 0 = preset i }; entries = entries i; data_kept = held i }
+      λ i. record { module_config = s.module_config; wd_preset = record { 0 = preset i }; entries = entries i; data_kept = held i }
 
 -- ---- an accepted image
 record Accepted (img : List ℕ) : Type 0 where
@@ -270,8 +270,8 @@ module _ (s : Setup) (h : SetupHeld s) where
   older-accepted = shown-accepted 2 (take 2 (contents_of s)) older-fit refl (omega arith) older-allowed
 
   -- it holds the same, but zeros for the data channel
-  pub older-back : decode (older_image s) ≡ record { module_config_lem = s.module_config_lem; wd_preset_lem = s.wd_preset_lem; entries = s.entries; data_kept = zero_data }
+  pub older-back : decode (older_image s) ≡ record { module_config = s.module_config; wd_preset = s.wd_preset; entries = s.entries; data_kept = zero_data }
   unfolding decode setup_from kept_from pairs_from real_from number of_bits of_int
   older-back =
       ap setup_from (shown-contents 2 (take 2 (contents_of s)) older-fit refl (omega arith) older-allowed)
-      ∙ ap (λ (u : Setup). record { module_config_lem = u.module_config_lem; wd_preset_lem = u.wd_preset_lem; entries = u.entries; data_kept = zero_data }) (of-back s h)
+      ∙ ap (λ (u : Setup). record { module_config = u.module_config; wd_preset = u.wd_preset; entries = u.entries; data_kept = zero_data }) (of-back s h)

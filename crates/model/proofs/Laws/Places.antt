@@ -10,7 +10,7 @@ use Rattle.model.specs.declared.DigitalRegister.{DigitalRegister}
 use Rattle.model.specs.declared.CommonRegister.{CommonRegister}
 use Rattle.model.specs.declared.DataRegister.{DataRegister}
 use Rattle.model.specs.Settings.{is_digital}
-use Rattle.model.specs.Registers.{Row, Place, service, digital, common, data_channel_lem, unlisted, find, place}
+use Rattle.model.specs.Registers.{Row, Place, service, digital, common, data_channel, unlisted, find, place}
 use Rattle.model.specs.Registers.{service_row, digital_row, common_row, data_row, service_registers, digital_registers, common_registers, data_registers}
 use Rattle.model.proofs.Laws.Tests.{by-test, range}
 
@@ -22,13 +22,13 @@ find_cases Q make row n (r ∷ rs) u h = by-test Q (eqb n (row r).number) (λ e.
 pub place-cases : (Q : Place → Type 0) (n : ℕ) → Q unlisted
     → (n / 16 ≡ 0 → (r : ServiceRegister) → n % 16 ≡ (service_row r).number → Q (service r))
     → (n / 16 ≡ 17 → (r : CommonRegister) → n % 16 ≡ (common_row r).number → Q (common r))
-    → (n / 16 ≡ 19 → (r : DataRegister) → n % 16 ≡ (data_row r).number → Q (data_channel_lem r))
+    → (n / 16 ≡ 19 → (r : DataRegister) → n % 16 ≡ (data_row r).number → Q (data_channel r))
     → (1 ≤ n / 16 → n / 16 ≤ 16 → (r : DigitalRegister) → n % 16 ≡ (digital_row r).number → Q (digital (n / 16) r)) → Q (place n)
 unfolding place
 place-cases Q n qu qs qc qv qd =
     by-test Q (eqb (n / 16) 0) (λ e. find_cases Q service service_row (n % 16) service_registers qu (qs (eqb-true _ _ e))) (λ e.
     by-test Q (eqb (n / 16) 17) (λ e₁. find_cases Q common common_row (n % 16) common_registers qu (qc (eqb-true _ _ e₁))) (λ e₁.
-    by-test Q (eqb (n / 16) 19) (λ e₂. find_cases Q data_channel_lem data_row (n % 16) data_registers qu (qv (eqb-true _ _ e₂))) (λ e₂.
+    by-test Q (eqb (n / 16) 19) (λ e₂. find_cases Q data_channel data_row (n % 16) data_registers qu (qv (eqb-true _ _ e₂))) (λ e₂.
     by-test Q (is_digital (n / 16)) (λ d. let (p, q) = range (n / 16) d in find_cases Q (digital (n / 16)) digital_row (n % 16) digital_registers qu (qd p q))
     (λ d. qu))))
 

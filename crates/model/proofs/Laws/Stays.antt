@@ -14,7 +14,7 @@ use Rattle.model.specs.declared.ServiceRegister.{ServiceRegister}
 use Rattle.model.specs.declared.DigitalRegister.{DigitalRegister}
 use Rattle.model.specs.declared.CommonRegister.{CommonRegister}
 use Rattle.model.specs.State.{nothing, channel_at, put_channel, write_enable_of, wd_timer_of}
-use Rattle.model.specs.Registers.{Place, service, digital, common, data_channel_lem, unlisted, place, service_row, digital_row}
+use Rattle.model.specs.Registers.{Place, service, digital, common, data_channel, unlisted, place, service_row, digital_row}
 use Rattle.model.specs.Tick as Tick
 use Rattle.model.specs.Reads as Reads
 use Rattle.model.specs.Writes as Writes
@@ -35,7 +35,7 @@ unfolding Reads.after_read
 read-size (Done n) (service r) m = refl
 read-size (Done n) (digital k r) m = length-set m.channels (k - 1) _
 read-size (Done n) (common r) m = refl
-read-size (Done n) (data_channel_lem r) m = refl
+read-size (Done n) (data_channel r) m = refl
 read-size (Done n) unlisted m = refl
 read-size (Refused q) p m = refl
 
@@ -44,7 +44,7 @@ unfolding Writes.written
 write-size (Done n) (service r) bs m = length-map m.channels (Writes.every_written r)
 write-size (Done n) (digital k r) bs m = length-set m.channels (k - 1) _
 write-size (Done n) (common r) bs m = length-each (Writes.common_written r bs) 0 m.channels
-write-size (Done n) (data_channel_lem r) bs m = refl
+write-size (Done n) (data_channel r) bs m = refl
 write-size (Done n) unlisted bs m = refl
 write-size (Refused q) p bs m = refl
 

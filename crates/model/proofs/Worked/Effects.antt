@@ -41,8 +41,8 @@ unfolding played Calls.cleared Calls.watchdog_preset Calls.step Calls.run Calls.
     Reals.whole Reals.units_of Reals.count_of Reals.real_of Written.from Written.below Written.up_to of_bits to_bits of_int le lt Calls.store_answer xor
 worked-effects =
     record {
-      out_flags_of = refl;
-      in_flags_of = refl;
+      out_flags = refl;
+      in_flags = refl;
       flag_reg_lem = refl;
       currents = refl;
       ch_config = refl;

@@ -6,7 +6,7 @@ use Rattle.model.specs.Worked.{bytes_from, words_from, Plays, wire_box}
 
 pub record Effects : Type 0 where
   -- A channel 14: OutFlags, bit k-1 for channel k; a rise has no change rule, a fall has it, an input has PrgError, and no Act bit is cleared
-  pub out_flags_of : Plays wire_box
+  pub out_flags : Plays wire_box
       (writes 0x110 (two 0xFFFF) present then reads 0x110 (two 0x80BB) present then reads 0x112 (four 0x7F44_7F44) present
       then reads 0x11F (four 0x0100_0100) present then bytes_from 0x10 16 present (0x80 ∷ 0x80 ∷ 0x02 ∷ 0xA0 ∷ 0x80 ∷ 0x80 ∷ 0x02 ∷ 0x80 ∷ 0x02 ∷
       0x02 ∷ 0x02 ∷ 0x02 ∷ 0x02 ∷ 0x02 ∷ 0x02 ∷ 0x80 ∷ [])
@@ -16,7 +16,7 @@ pub record Effects : Type 0 where
       0 ∷ 0 ∷ 0 ∷ 0 ∷ 0 ∷ 0 ∷ 0 ∷ 0 ∷ 0 ∷ 0x3EA0_0000 ∷ []) then reads 0x112 (four 0x7F44_7F44) present then writes 0x110 (two 0) present
       then reads 0x112 (four 0x7F44_7F44) present then reads 0x0F (words (0x8100_0100 ∷ 0x88FE_0200 ∷ 0x88FE_0200 ∷ [])) present)
   -- A channel 9, 10 and 15: InFlags on simulated channels only, the levels of samples on the others, and each rise counted
-  pub in_flags_of : Plays wire_box
+  pub in_flags : Plays wire_box
       (writes 0x111 (two 0xFFFF) past then reads 0x111 (two 0x0062) past
       then words_from 0x12 16 past (0x0102_0304 ∷ 0x0000_0001 ∷ 0 ∷ 0 ∷ 0 ∷ 0x0000_0001 ∷ 0x0000_0001 ∷ 0 ∷ []) then writes 0x111 (two 0xFFFF) past
       then writes 0x111 (two 0x0042) past then reads 0x111 (two 0x0042) past then writes 0x111 (two 0x0022) past then reads 0x111 (two 0x0022) past

@@ -20,7 +20,7 @@ abbrev pub finds : ℕ → ℕ → ℕ → List Case
 finds k x bits =
     record {
       call = look_up k (of_bits binary32 x);
-      answer = record { number = 0; length = 0; buffer = []; data_error_lem = false; general_error_lem = false; real_bits_of = bits };
+      answer = record { number = 0; length = 0; buffer = []; data_error = false; general_error = false; real_bits = bits };
     } ∷ []
 
 abbrev pub refused_look_up : ℕ → ℕ → ℕ → List Case
@@ -58,8 +58,8 @@ abbrev pub level_box_with : List ℕ → List ℕ → Module
 level_box_with first second =
     powered_up
     (record {
-      module_config_lem = config_of 0x0010_0000;
-      wd_preset_lem = timer (pos 0);
+      module_config = config_of 0x0010_0000;
+      wd_preset = timer (pos 0);
       entries = replicate 16 no_entry;
       data_kept = record { reals = reals_of (of_bits binary32 0x3FC0_0000) (of_bits binary32 0xC010_0000); table1 = table first; table2 = table second };
     })

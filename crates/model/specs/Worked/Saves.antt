@@ -18,8 +18,8 @@ kept_entry =
     let e = entry 0x0010_0000 0 0 in
     record {
       config = e.config;
-      fb_preset_lem = e.fb_preset_lem;
-      out_preset_lem = e.out_preset_lem;
+      fb_preset = e.fb_preset;
+      out_preset = e.out_preset;
       min = e.min;
       max = e.max;
       reals = e.reals;

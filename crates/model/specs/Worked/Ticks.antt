@@ -12,8 +12,8 @@ late_entry =
     let e = no_entry in
     record {
       config = e.config;
-      fb_preset_lem = e.fb_preset_lem;
-      out_preset_lem = e.out_preset_lem;
+      fb_preset = e.fb_preset;
+      out_preset = e.out_preset;
       min = e.min;
       max = e.max;
       reals = e.reals;

@@ -118,14 +118,14 @@ module _ (n u z j : ℕ) (U : u ≤ 8) (Z : z + suc j ≡ 32) (lo : 2 ^ j ≤ n)
       e : 24 + (157 - u - z) < 277
       e = omega arith
 
-  pub real_bits_of : (s : Bool) → to_bits binary32 (round binary32 s n (2 ^ u)) ≡ cond s (top binary32) 0 + (157 - u - z) * 8388608 + closest (n * 2 ^ z) 256
-  real_bits_of s =
+  pub real_bits : (s : Bool) → to_bits binary32 (round binary32 s n (2 ^ u)) ≡ cond s (top binary32) 0 + (157 - u - z) * 8388608 + closest (n * 2 ^ z) 256
+  real_bits s =
       value-bits binary32 (round binary32 s n (2 ^ u)) s (closest (n * 2 ^ z) 256 * 2 ^ (157 - u - z))
       (subst (λ (g : ℕ). HasValue (round binary32 s n (2 ^ u)) s g (2 ^ 149)) grid-is (round-value binary32 s n (2 ^ u) in-range))
       ∙ carry (cond s (top binary32) 0) (closest (n * 2 ^ z) 256) (157 - u - z) digits_low digits-high
 
   pub real-is : (s : Bool) → of_bits binary32 (cond s 2147483648 0 + (157 - u - z) * 8388608 + closest (n * 2 ^ z) 256) ≡ round binary32 s n (2 ^ u)
-  real-is s = ap (of_bits binary32) (sym (real_bits_of s)) ∙ of_bits-to_bits binary32 (round binary32 s n (2 ^ u)) (round-fits binary32 s n (2 ^ u))
+  real-is s = ap (of_bits binary32) (sym (real_bits s)) ∙ of_bits-to_bits binary32 (round binary32 s n (2 ^ u)) (round-fits binary32 s n (2 ^ u))
 
 -- ---- by the count of n's leading zeros
 wide : (x : ℕ) → x < 2 ^ 32 → x < 18446744073709551616

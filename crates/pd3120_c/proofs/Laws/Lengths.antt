@@ -18,7 +18,7 @@ use Rattle.model.specs.declared.Reply.TheVariants.{Done, Refused}
 use Rattle.model.specs.declared.Service.{Service}
 use Rattle.model.specs.declared.Shared.{Shared}
 use Rattle.model.specs.State.{config, write_enable_of, service_of, module_of, nothing}
-use Rattle.model.specs.Registers.{Place, service, digital, common, data_channel_lem, unlisted, data_row, place, size}
+use Rattle.model.specs.Registers.{Place, service, digital, common, data_channel, unlisted, data_row, place, size}
 use Rattle.model.specs.Questions.{Question, asked, length_of, read_reply, write_reply, sample_reply, look_up_reply, minute_reply, windows_reply, power_up_reply, store_reply}
 use Rattle.model.specs.Questions.{read_questions, write_questions, sample_questions, look_up_questions, minute_questions, windows_questions, power_up_questions}
 use Rattle.model.specs.Questions.{store_questions}
@@ -56,7 +56,7 @@ register-length : (p : Place) → size p ≤ image_size
 register-length (service r) = let h = service-fits r in omega (arith, h)
 register-length (digital k r) = let h = digital-fits r in omega (arith, h)
 register-length (common r) = let h = common-fits r in omega (arith, h)
-register-length (data_channel_lem r) = data-length r
+register-length (data_channel r) = data-length r
 register-length unlisted = omega arith
 
 pub step-length : (m : Module) (x : Request) → (step m x).answer.length ≤ image_size

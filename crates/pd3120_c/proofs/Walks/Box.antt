@@ -92,8 +92,8 @@ channel = record {
   pure = λ x vs. Ch'.the_field_plain ((Ch.the_type).to x) vs;
 }
 
-abbrev pub data_channel_lem : Plain
-data_channel_lem = record {
+abbrev pub data_channel : Plain
+data_channel = record {
   D = DataChannel;
   mir = Dc'.mir;
   written = (Dc.the_row).written;
@@ -119,7 +119,7 @@ pub owned-each : (cs : List Channel) → Owned channel cs → shadow (each _ (Ch
 owned-each [] p = tt
 owned-each (c ∷ cs) p = (p.0, owned-each cs p.1)
 
-abbrev pub box : Grouped shared service channel data_channel_lem
+abbrev pub box : Grouped shared service channel data_channel
 box = record {
   D = Module;
   name = (T.struct).name;
@@ -144,7 +144,7 @@ box = record {
           own_value service m.service _ f.1.0,
           (
             (each_owned m.channels _ f.1.1.0.1.1, sym (length-map m.channels (Ch.the_type).to) ∙ f.1.1.0.1.0.1),
-            own_value data_channel_lem m.data_channel _ f.1.1.1.0,
+            own_value data_channel m.data_channel _ f.1.1.1.0,
           ),
         ),
       );
@@ -159,7 +159,7 @@ box = record {
 
 -- the module as one value
 abbrev pub held : Plain
-held = rows shared service channel data_channel_lem box
+held = rows shared service channel data_channel box
 
 -- ---- the answers: a module and a code
 abbrev pub answer : Packed held

@@ -10,7 +10,7 @@ use Rattle.model.specs.declared.Module.{Module}
 use Rattle.model.specs.Calls.{look_up, step}
 use Rattle.pd3120_c.specs.Codes.{look_up_code, LookedUpLeft}
 use Rattle.pd3120_c.proofs.Walks.Types.{byte, real, count}
-use Rattle.pd3120_c.proofs.Walks.Box.{shared, service, channel, data_channel_lem, box}
+use Rattle.pd3120_c.proofs.Walks.Box.{shared, service, channel, data_channel, box}
 use Rattle.pd3120_c.proofs.Walks.LookUp.{Called, meets}
 use Rattle.pd3120_c.proofs.calls.look_up.Symbol as call-def
 use Rattle.pd3120_c.proofs.calls.look_up.Symbol.{name as #call}
@@ -34,7 +34,7 @@ unfolding code.routine tables_of
 pd3120-look-up-spec 𝓤 𝓛 𝓜 𝓡 =
     entered 𝓤 𝓛.H (triple_of 𝓛 exported.signature (exported.spec 𝓛 𝓜.mem 𝓡.run))
     (tables 𝓤 𝓛.H 𝓜 𝓡 code.env).C (tables 𝓤 𝓛.H 𝓜 𝓡 code.env).Λ #export code.function (code.unfolded 𝓤 𝓛.H 𝓜 𝓡)
-    (meets shared service channel data_channel_lem box byte real count 𝓛 #call Gives Leaves follows
+    (meets shared service channel data_channel box byte real count 𝓛 #call Gives Leaves follows
     (tables_of 𝓤 𝓛.H 𝓜 (tables 𝓤 𝓛.H 𝓜 𝓡 code.env))
-    (cited 𝓤 𝓛.H (Called shared service channel data_channel_lem box byte real count 𝓛 Gives) 𝓜 𝓡 code.env #call call-def.routine
+    (cited 𝓤 𝓛.H (Called shared service channel data_channel box byte real count 𝓛 Gives) 𝓜 𝓡 code.env #call call-def.routine
     code.calls-pd3120-c::calls::look-up (call-thm.met 𝓤 𝓛 𝓜 𝓡)))

@@ -20,7 +20,7 @@ use Rattle.reads.specs.Reading.{put_back}
 use Rattle.pd3120_c.specs.declared.ReadDone.{ReadDone}
 use Rattle.pd3120_c.specs.Codes.{ReadLeft, LeftLent}
 use Rattle.pd3120_c.proofs.Walks.Types.{word}
-use Rattle.pd3120_c.proofs.Walks.Box.{shared, service, channel, data_channel_lem, box, seen, changed}
+use Rattle.pd3120_c.proofs.Walks.Box.{shared, service, channel, data_channel, box, seen, changed}
 use Rattle.pd3120_c.proofs.Walks.Read.{Seen, Called, meets}
 use Rattle.pd3120_c.proofs.Walks.Slot.{Found}
 use Rattle.registers.proofs.wire_slot.Symbol as slot-def
@@ -61,11 +61,11 @@ unfolding code.routine tables_of
 pd3120-read-spec 𝓤 𝓛 𝓜 𝓡 =
     entered 𝓤 𝓛.H (triple_of 𝓛 exported.signature (exported.spec 𝓛 𝓜.mem 𝓡.run))
     (tables 𝓤 𝓛.H 𝓜 𝓡 code.env).C (tables 𝓤 𝓛.H 𝓜 𝓡 code.env).Λ #export code.function (code.unfolded 𝓤 𝓛.H 𝓜 𝓡)
-    (meets shared service channel data_channel_lem box seen word changed 𝓛 #slot #look #call Finds Sees Gives Leaves
+    (meets shared service channel data_channel box seen word changed 𝓛 #slot #look #call Finds Sees Gives Leaves
     (λ n i p. p.1) follows
     (tables_of 𝓤 𝓛.H 𝓜 (tables 𝓤 𝓛.H 𝓜 𝓡 code.env))
     (cited 𝓤 𝓛.H (Found word 𝓛 Finds) 𝓜 𝓡 code.env #slot slot-def.routine code.calls-registers::wire-slot (slot-thm.met 𝓤 𝓛 𝓜 𝓡))
-    (cited 𝓤 𝓛.H (Seen shared service channel data_channel_lem box seen word changed 𝓛 Sees) 𝓜 𝓡 code.env #look look-def.routine
+    (cited 𝓤 𝓛.H (Seen shared service channel data_channel box seen word changed 𝓛 Sees) 𝓜 𝓡 code.env #look look-def.routine
     code.calls-pd3120-c::calls::words-of (look-thm.met 𝓤 𝓛 𝓜 𝓡))
-    (cited 𝓤 𝓛.H (Called shared service channel data_channel_lem box seen word changed 𝓛 Gives) 𝓜 𝓡 code.env #call call-def.routine
+    (cited 𝓤 𝓛.H (Called shared service channel data_channel box seen word changed 𝓛 Gives) 𝓜 𝓡 code.env #call call-def.routine
     code.calls-pd3120-c::calls::read (call-thm.met 𝓤 𝓛 𝓜 𝓡)))

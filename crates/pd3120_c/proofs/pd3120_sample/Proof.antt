@@ -18,7 +18,7 @@ use Rattle.pd3120_c.specs.declared.ChannelDone.{ChannelDone}
 use Rattle.pd3120_c.specs.Codes.{Left, SampleLeft}
 use Rattle.pd3120_c.proofs.Laws.Answers.{sample-left}
 use Rattle.pd3120_c.proofs.Walks.Types.{byte, flag, real}
-use Rattle.pd3120_c.proofs.Walks.Box.{shared, service, channel, data_channel_lem, box, sampled}
+use Rattle.pd3120_c.proofs.Walks.Box.{shared, service, channel, data_channel, box, sampled}
 use Rattle.pd3120_c.proofs.Walks.Sample.{Called, meets}
 use Rattle.pd3120_c.proofs.Walks.Slot.{Found}
 use Rattle.pd3120_c.proofs.calls.sample.Symbol as call-def
@@ -43,8 +43,8 @@ unfolding code.routine tables_of
 pd3120-sample-spec 𝓤 𝓛 𝓜 𝓡 =
     entered 𝓤 𝓛.H (triple_of 𝓛 exported.signature (exported.spec 𝓛 𝓜.mem 𝓡.run))
     (tables 𝓤 𝓛.H 𝓜 𝓡 code.env).C (tables 𝓤 𝓛.H 𝓜 𝓡 code.env).Λ #export code.function (code.unfolded 𝓤 𝓛.H 𝓜 𝓡)
-    (meets shared service channel data_channel_lem box byte flag real sampled 𝓛 #slot #call Finds Gives Leaves (λ k i p. p.1)
+    (meets shared service channel data_channel box byte flag real sampled 𝓛 #slot #call Finds Gives Leaves (λ k i p. p.1)
     (λ m k b x i d p e. sample-left m k b x i d p.0 e) (tables_of 𝓤 𝓛.H 𝓜 (tables 𝓤 𝓛.H 𝓜 𝓡 code.env))
     (cited 𝓤 𝓛.H (Found byte 𝓛 Finds) 𝓜 𝓡 code.env #slot slot-def.routine code.calls-pd3120::samples::slot (slot-thm.met 𝓤 𝓛 𝓜 𝓡))
-    (cited 𝓤 𝓛.H (Called shared service channel data_channel_lem box byte flag real sampled 𝓛 Gives) 𝓜 𝓡 code.env #call call-def.routine
+    (cited 𝓤 𝓛.H (Called shared service channel data_channel box byte flag real sampled 𝓛 Gives) 𝓜 𝓡 code.env #call call-def.routine
     code.calls-pd3120-c::calls::sample (call-thm.met 𝓤 𝓛 𝓜 𝓡)))

@@ -18,7 +18,7 @@ use Rattle.pd3120.proofs.samples.slot.Met as slot-thm
 use Rattle.pd3120_c.specs.declared.ChannelDone.{ChannelDone}
 use Rattle.pd3120_c.specs.Codes.{Left, WindowsLeft}
 use Rattle.pd3120_c.proofs.Walks.Types.{byte, codes}
-use Rattle.pd3120_c.proofs.Walks.Box.{shared, service, channel, data_channel_lem, box, sampled}
+use Rattle.pd3120_c.proofs.Walks.Box.{shared, service, channel, data_channel, box, sampled}
 use Rattle.pd3120_c.proofs.Walks.Item.{Called, meets}
 use Rattle.pd3120_c.proofs.Walks.Slot.{Found}
 use Rattle.pd3120_c.proofs.calls.set_windows.Symbol as call-def
@@ -47,8 +47,8 @@ unfolding code.routine tables_of
 pd3120-set-windows-spec 𝓤 𝓛 𝓜 𝓡 =
     entered 𝓤 𝓛.H (triple_of 𝓛 exported.signature (exported.spec 𝓛 𝓜.mem 𝓡.run))
     (tables 𝓤 𝓛.H 𝓜 𝓡 code.env).C (tables 𝓤 𝓛.H 𝓜 𝓡 code.env).Λ #export code.function (code.unfolded 𝓤 𝓛.H 𝓜 𝓡)
-    (meets shared service channel data_channel_lem box byte codes sampled 𝓛 #slot #call Finds Gives Leaves (λ k i p. p.1)
+    (meets shared service channel data_channel box byte codes sampled 𝓛 #slot #call Finds Gives Leaves (λ k i p. p.1)
     follows (tables_of 𝓤 𝓛.H 𝓜 (tables 𝓤 𝓛.H 𝓜 𝓡 code.env))
     (cited 𝓤 𝓛.H (Found byte 𝓛 Finds) 𝓜 𝓡 code.env #slot slot-def.routine code.calls-pd3120::samples::slot (slot-thm.met 𝓤 𝓛 𝓜 𝓡))
-    (cited 𝓤 𝓛.H (Called shared service channel data_channel_lem box byte codes sampled 𝓛 Gives) 𝓜 𝓡 code.env #call call-def.routine
+    (cited 𝓤 𝓛.H (Called shared service channel data_channel box byte codes sampled 𝓛 Gives) 𝓜 𝓡 code.env #call call-def.routine
     code.calls-pd3120-c::calls::set-windows (call-thm.met 𝓤 𝓛 𝓜 𝓡)))

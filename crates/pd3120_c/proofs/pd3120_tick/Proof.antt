@@ -20,7 +20,7 @@ use Rattle.ticks.specs.Begun.{begun_of, ticked_by, data_ticked_by}
 use Rattle.ticks.proofs.Whole.{whole}
 use Rattle.pd3120_c.specs.Codes.{Ticked}
 use Rattle.pd3120_c.proofs.Laws.Turns.{saved-done}
-use Rattle.pd3120_c.proofs.Walks.Box.{shared, service, channel, data_channel_lem, box, tick-begun}
+use Rattle.pd3120_c.proofs.Walks.Box.{shared, service, channel, data_channel, box, tick-begun}
 use Rattle.pd3120_c.proofs.Walks.Tick.{Started, Followed, meets}
 use Rattle.pd3120_c.proofs.Walks.TickLoop.{Called}
 use Rattle.pd3120_c.proofs.Walks.TickSave.{Called as Kept}
@@ -82,14 +82,14 @@ unfolding code.routine tables_of
 pd3120-tick-spec 𝓤 𝓛 𝓜 𝓡 =
     entered 𝓤 𝓛.H (triple_of 𝓛 exported.signature (exported.spec 𝓛 𝓜.mem 𝓡.run))
     (tables 𝓤 𝓛.H 𝓜 𝓡 code.env).C (tables 𝓤 𝓛.H 𝓜 𝓡 code.env).Λ #export code.function (code.unfolded 𝓤 𝓛.H 𝓜 𝓡)
-    (meets shared service channel data_channel_lem box tick-begun 𝓛 #begin #data #turn #keep Begins data_ticked_by ticked_by
+    (meets shared service channel data_channel box tick-begun 𝓛 #begin #data #turn #keep Begins data_ticked_by ticked_by
     (saved true) Ticked few follows
     (tables_of 𝓤 𝓛.H 𝓜 (tables 𝓤 𝓛.H 𝓜 𝓡 code.env))
-    (cited 𝓤 𝓛.H (Started shared service channel data_channel_lem box tick-begun 𝓛 Begins) 𝓜 𝓡 code.env #begin begin-def.routine code.calls-ticks::begin
+    (cited 𝓤 𝓛.H (Started shared service channel data_channel box tick-begun 𝓛 Begins) 𝓜 𝓡 code.env #begin begin-def.routine code.calls-ticks::begin
     (begin-thm.met 𝓤 𝓛 𝓜 𝓡))
-    (cited 𝓤 𝓛.H (Followed shared service channel data_channel_lem box tick-begun 𝓛 data_ticked_by) 𝓜 𝓡 code.env #data data-def.routine
+    (cited 𝓤 𝓛.H (Followed shared service channel data_channel box tick-begun 𝓛 data_ticked_by) 𝓜 𝓡 code.env #data data-def.routine
     code.calls-ticks::tick-data (data-thm.met 𝓤 𝓛 𝓜 𝓡))
-    (cited 𝓤 𝓛.H (Called shared service channel data_channel_lem box tick-begun 𝓛 ticked_by) 𝓜 𝓡 code.env #turn turn-def.routine code.calls-ticks::tick-one
+    (cited 𝓤 𝓛.H (Called shared service channel data_channel box tick-begun 𝓛 ticked_by) 𝓜 𝓡 code.env #turn turn-def.routine code.calls-ticks::tick-one
     (turn-thm.met 𝓤 𝓛 𝓜 𝓡))
-    (cited 𝓤 𝓛.H (Kept shared service channel data_channel_lem box tick-begun 𝓛 (saved true)) 𝓜 𝓡 code.env #keep keep_def.routine code.calls-review::keep
+    (cited 𝓤 𝓛.H (Kept shared service channel data_channel box tick-begun 𝓛 (saved true)) 𝓜 𝓡 code.env #keep keep_def.routine code.calls-review::keep
     (keep-thm.met 𝓤 𝓛 𝓜 𝓡)))

@@ -23,7 +23,7 @@ use Rattle.writes.proofs.Laws.Begun.{first_done}
 use Rattle.pd3120_c.specs.declared.WriteBegun.{WriteBegun}
 use Rattle.pd3120_c.specs.Codes.{packed, Left, WriteLeft, each_left, write_left}
 use Rattle.pd3120_c.proofs.Walks.Types.{word, bytes}
-use Rattle.pd3120_c.proofs.Walks.Box.{shared, service, channel, data_channel_lem, box, write-begun}
+use Rattle.pd3120_c.proofs.Walks.Box.{shared, service, channel, data_channel, box, write-begun}
 use Rattle.pd3120_c.proofs.Walks.Parts.{Anew}
 use Rattle.pd3120_c.proofs.Walks.Slot.{Found}
 use Rattle.pd3120_c.proofs.Walks.Write.{Started, meets}
@@ -99,15 +99,15 @@ unfolding code.routine tables_of
 pd3120-write-spec 𝓤 𝓛 𝓜 𝓡 =
     entered 𝓤 𝓛.H (triple_of 𝓛 exported.signature (exported.spec 𝓛 𝓜.mem 𝓡.run))
     (tables 𝓤 𝓛.H 𝓜 𝓡 code.env).C (tables 𝓤 𝓛.H 𝓜 𝓡 code.env).Λ #export code.function (code.unfolded 𝓤 𝓛.H 𝓜 𝓡)
-    (meets shared service channel data_channel_lem box word bytes write-begun 𝓛 #slot #begin #data #turn #finish Finds Begins Writes
+    (meets shared service channel data_channel box word bytes write-begun 𝓛 #slot #begin #data #turn #finish Finds Begins Writes
     each_left Ends Leaves (λ n i p. p.1) (λ s v ch n bs b h. h.0) follows
     (tables_of 𝓤 𝓛.H 𝓜 (tables 𝓤 𝓛.H 𝓜 𝓡 code.env))
     (cited 𝓤 𝓛.H (Found word 𝓛 Finds) 𝓜 𝓡 code.env #slot slot-def.routine code.calls-registers::wire-slot (slot-thm.met 𝓤 𝓛 𝓜 𝓡))
-    (cited 𝓤 𝓛.H (Started shared service channel data_channel_lem box word bytes write-begun 𝓛 Begins) 𝓜 𝓡 code.env #begin begin-def.routine
+    (cited 𝓤 𝓛.H (Started shared service channel data_channel box word bytes write-begun 𝓛 Begins) 𝓜 𝓡 code.env #begin begin-def.routine
     code.calls-pd3120-c::calls::begin-write (begin-thm.met 𝓤 𝓛 𝓜 𝓡))
-    (cited 𝓤 𝓛.H (Wrote shared service channel data_channel_lem box word bytes write-begun 𝓛 Writes) 𝓜 𝓡 code.env #data data-def.routine
+    (cited 𝓤 𝓛.H (Wrote shared service channel data_channel box word bytes write-begun 𝓛 Writes) 𝓜 𝓡 code.env #data data-def.routine
     code.calls-pd3120-c::calls::write-data (data-thm.met 𝓤 𝓛 𝓜 𝓡))
-    (cited 𝓤 𝓛.H (Called shared service channel data_channel_lem box write-begun 𝓛 each_left) 𝓜 𝓡 code.env #turn turn-def.routine
+    (cited 𝓤 𝓛.H (Called shared service channel data_channel box write-begun 𝓛 each_left) 𝓜 𝓡 code.env #turn turn-def.routine
     code.calls-pd3120-c::calls::write-each (turn-thm.met 𝓤 𝓛 𝓜 𝓡))
-    (cited 𝓤 𝓛.H (Finished shared service channel data_channel_lem box write-begun 𝓛 Ends) 𝓜 𝓡 code.env #finish finish-def.routine
+    (cited 𝓤 𝓛.H (Finished shared service channel data_channel box write-begun 𝓛 Ends) 𝓜 𝓡 code.env #finish finish-def.routine
     code.calls-pd3120-c::calls::finish-write (finish-thm.met 𝓤 𝓛 𝓜 𝓡)))

@@ -25,8 +25,8 @@ use Rattle.ticks.specs.PutBack.{put_back}
 
 record Rest : Type 0 where
   config : Config
-  out_preset_lem : TimerCount
-  fb_preset_lem : TimerCount
+  out_preset : TimerCount
+  fb_preset : TimerCount
   currents : Currents
   counter : ℤ
   user : List ℕ
@@ -39,8 +39,8 @@ abbrev rest : Channel → Rest
 rest ch =
     record {
       config = ch.config;
-      out_preset_lem = out_preset_of ch;
-      fb_preset_lem = fb_preset_of ch;
+      out_preset = out_preset_of ch;
+      fb_preset = fb_preset_of ch;
       currents = ch.currents;
       counter = ch.counter;
       user = ch.user;
@@ -53,7 +53,7 @@ rest ch =
 -- a channel with these parts
 abbrev with_rest : Rest → Channel → Channel
 with_rest x ch =
-    channel_with x.config ch.flags (out_timer_of ch) (fb_timer_of ch) x.out_preset_lem x.fb_preset_lem x.currents ch.errors x.counter ch.operating ch.quarters
+    channel_with x.config ch.flags (out_timer_of ch) (fb_timer_of ch) x.out_preset x.fb_preset x.currents ch.errors x.counter ch.operating ch.quarters
     x.user x.reals x.maintenance x.timetable x.kept
 
 put-back : (after ch : Channel) → rest after ≡ rest ch → put_back after ch ≡ after

@@ -20,7 +20,7 @@ use Rattle.model.specs.declared.Reply.TheVariants.{Done, Refused}
 use Rattle.model.specs.declared.ServiceRegister.{ServiceRegister}
 use Rattle.model.specs.declared.ServiceRegister.TheVariants.{Highest, Reset, FreeRunTimer, WDTimer, ModuleConfig, WDPreset, WriteEnable, CommonError}
 use Rattle.model.specs.State.{write_enable_of, data_channel_of, module_of, nothing}
-use Rattle.model.specs.Registers.{Place, service, digital, common, data_channel_lem, unlisted, place}
+use Rattle.model.specs.Registers.{Place, service, digital, common, data_channel, unlisted, place}
 use Rattle.model.specs.Questions.{write_reply}
 use Rattle.model.specs.Writes.{each, every_written, common_written, data_reset, written}
 use Rattle.model.proofs.Laws.Filled.{filled, none, below, below_none}
@@ -86,7 +86,7 @@ unfolding written common_written
 whole (service r) bs i s v cs d o l = rw (set-get_or cs i nothing, every-channel r cs l)
 whole (digital k r) bs i s v cs d o l = rw o
 whole (common r) bs i s v cs d o l = rw (set-get_or cs i nothing, all_of (common_written r bs) 16 0 cs l)
-whole (data_channel_lem r) bs i s v cs d o l = rw (set-get_or cs i nothing)
+whole (data_channel r) bs i s v cs d o l = rw (set-get_or cs i nothing)
 whole unlisted bs i s v cs d o l = rw (set-get_or cs i nothing)
 
 -- ---- the data channel
@@ -109,7 +109,7 @@ data-stays : (p : Place) (s : Shared) (bs : List ℕ) (d : DataChannel) → of_d
 data-stays (service r) s bs d e = service-stays r d e
 data-stays (digital k r) s bs d e = refl
 data-stays (common r) s bs d e = refl
-data-stays (data_channel_lem r) s bs d e = no e
+data-stays (data_channel r) s bs d e = no e
 data-stays unlisted s bs d e = refl
 
 -- by the reply of the write
@@ -129,7 +129,7 @@ count_fits (service WriteEnable) = omega arith
 count_fits (service CommonError) = omega arith
 count_fits (digital k r) = omega arith
 count_fits (common r) = omega arith
-count_fits (data_channel_lem r) = omega arith
+count_fits (data_channel r) = omega arith
 count_fits unlisted = omega arith
 
 -- the parts that `begin` gives, of a write that is done and of one that is refused

@@ -1,0 +1,44 @@
+use mathlib.Core.Path.{◌≡◌, refl, ap, ◌∙◌}
+use mathlib.Core.Bool.{true}
+use Prim.Native.Nat.{◌-◌}
+use lib.ListN.{length}
+use mir.Syntax.{w32}
+use mir.Val.{to_z, of_z}
+use mir.ValLaws.{to_z-of_z}
+use Rattle.integers.specs.Bytes.{signed_number}
+use Rattle.model.specs.State.{channel_at}
+use Rattle.model.specs.Settings.{is_digital}
+use Rattle.model.specs.Calls.{Stepped}
+use borrow.Author.Rules.{rules}
+use borrow.Author.Tests.{le-leb, lt-leb}
+use Rattle.charge.specs.Readings.{read_as, reading}
+use Rattle.charge.proofs.Laws.Held.{counter-held}
+use Rattle.charge.proofs.Laws.Readings.{counter-read, four_bytes}
+use Rattle.charge.proofs.readings.read_counter.Goals as goal
+
+pub returns-then-channel-lt1 : goal.returns-then-channel-lt1
+unfolding reading
+returns-then-channel-lt1 c = simp (c.refuse.ensures, lt-leb 1 _ c.if-channel-lt1.true)
+
+pub returns-then-channel-gt16 : goal.returns-then-channel-gt16
+unfolding reading
+returns-then-channel-gt16 c = simp (c.refuse-then-channel-gt16.ensures, le-leb 1 _ c.if-channel-lt1.false, lt-leb _ 16 c.if-channel-gt16.true)
+
+pub returns : goal.returns
+unfolding reading
+returns c =
+    let start = c in
+    let m = start.args.m in
+    let k = start.args.channel in
+    let from-1 = le-leb 1 k c.if-channel-lt1.false in
+    let to-16 = le-leb k 16 c.if-channel-gt16.false in
+    let digital : is_digital k ≡ true = rw (from-1, to-16) refl in
+    let r = c.read-done in
+    let bytes = r.new.1.1.0 in
+    let four : length bytes ≡ 4 = search rules in
+    let counter = c.i32_of_bytes in
+    let count : to_z w32 (of_z w32 counter.result) ≡ (channel_at m k).counter
+    = to_z-of_z w32 _ (record { sfits = counter.type-inv }) ∙ counter.ensures ∙ ap signed_number (four_bytes bytes four)
+    ∙ ap (λ (s : Stepped). signed_number s.answer.buffer) r.ensures
+    ∙ counter-read m k digital (counter-held m.channels _ (k - 1) start.well-formed.0.1.1.1.1.0.1.1) in
+    rw (digital, count, c.number.ensures) (ap (λ (s : Stepped). read_as s (channel_at m k).counter) r.ensures)

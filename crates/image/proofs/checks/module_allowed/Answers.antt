@@ -1,0 +1,6 @@
+use Rattle.model.specs.Image.{module_allowed}
+use Rattle.image.proofs.checks.module_allowed.Goals as goal
+
+pub returns : goal.returns
+unfolding module_allowed
+returns c = rw (c.preset_allowed-preset.ensures, c.module_config_allowed-config.ensures)

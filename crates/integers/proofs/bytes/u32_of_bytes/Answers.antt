@@ -1,0 +1,7 @@
+use Rattle.std.proofs.Common.{arith}
+use Rattle.integers.specs.Bytes.{number}
+use Rattle.integers.proofs.bytes.u32_of_bytes.Goals as goal
+
+pub returns : goal.returns
+unfolding number
+returns c = omega arith

@@ -1,0 +1,7 @@
+use Rattle.pd3120.proofs.lookups.bits.Goals as goal
+
+pub returns-in-Done : goal.returns-in-Done
+returns-in-Done c = simp (c.level_bits.ensures, c.enum_told-1.given.1)
+
+pub returns-in-Refused : goal.returns-in-Refused
+returns-in-Refused c = simp c.enum_told-in-Refused-1.given.1

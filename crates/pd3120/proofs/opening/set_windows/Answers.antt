@@ -1,0 +1,23 @@
+use Rattle.model.specs.State.{with_timetable}
+use Rattle.model.specs.Hours.{timetable_of}
+use Rattle.model.specs.Questions.{windows_reply}
+use Rattle.model.specs.Calls.{step}
+use Rattle.pd3120.proofs.Laws.Samples.{has-channel, done, refused}
+use Rattle.pd3120.proofs.opening.set_windows.Goals as goal
+
+pub returns-in-Done : goal.returns-in-Done
+unfolding step
+returns-in-Done c =
+    let a = c.args in
+    let r = c.windows_reply-reply in
+    let ws = a.windows.now in
+    λ m p.
+    done r.result (windows_reply a.channel ws) _ a.channel (with_timetable (timetable_of ws)) _ _ r.ensures c.enum_told-1.given.1
+    (has-channel a.channel ws) c.with_windows.ensures m p
+
+pub returns-in-Refused : goal.returns-in-Refused
+unfolding step
+returns-in-Refused c =
+    let a = c.args in
+    let r = c.windows_reply-reply in
+    λ m p. refused r.result (windows_reply a.channel a.windows.now) _ a.channel _ _ r.ensures c.enum_told-in-Refused-1.given.1 m p

@@ -1,0 +1,20 @@
+use mathlib.Core.Path.{ap, ◌∙◌}
+use Rattle.model.specs.Calls.{Answer}
+use Rattle.pd3120_c.specs.Codes.{answer_code}
+use Rattle.pd3120_c.proofs.Laws.Lengths.{power-up-length}
+use Rattle.pd3120_c.proofs.calls.power_up.Goals as goal
+
+pub pack-requires : goal.pack-requires
+pack-requires c = power-up-length c.args.img.now c.power_up-started.result.reply c.power_up-started.ensures.answer-is
+
+pub returns : goal.returns
+returns c =
+    let e = c.power_up-started.ensures in
+    let number = ap (λ (a : Answer). a.number) e.answer-is in
+    record {
+      left = (e.box-is, c.pack.ensures ∙ ap answer_code e.answer-is);
+      runs-add-up = e.runs-add-up;
+      learns_nothing = λ ok. e.learns_nothing (number ∙ ok);
+      stored-again = λ ok long. e.stored-again (number ∙ ok) long;
+      renewed = λ ok. e.renewed (number ∙ ok);
+    }

@@ -1,0 +1,4 @@
+use Rattle.questions.proofs.exact.Goals as goal
+
+pub returns : goal.returns
+returns c = simp c.size.ensures

@@ -1,0 +1,51 @@
+use mathlib.Core.Path.{◌≡◌, refl}
+use mir.Facts.{to_z-of_z}
+use mir.Syntax.{w32}
+use lib.ListN.{length}
+use borrow.Author.Rules.{rules}
+use Rattle.integers.specs.Bytes.{bytes_of}
+use Rattle.model.specs.Reads.{service_bytes}
+use Rattle.reads.specs.Reading.{box_of}
+use Rattle.reads.proofs.Laws.Held.{held-size, own}
+use Rattle.reads.proofs.service_bytes.Goals as goal
+
+pub returns-in-Highest : goal.returns-in-Highest
+unfolding service_bytes bytes_of
+returns-in-Highest c = let a = c.args in own a.r a.s a.v a.w _ (λ d cs. simp (c.two.ensures, c.enum_told-1.given.1))
+
+pub returns-in-Reset : goal.returns-in-Reset
+unfolding service_bytes
+returns-in-Reset c = let a = c.args in own a.r a.s a.v a.w _ (λ d cs. simp (c.one.ensures, c.enum_told-in-Reset-1.given.1))
+
+pub returns-in-FreeRunTimer : goal.returns-in-FreeRunTimer
+unfolding service_bytes
+returns-in-FreeRunTimer c =
+    let a = c.args in
+    let z = a.s.free_run_timer.0 in
+    own a.r a.s a.v a.w _ (λ d cs. simp (c.signed.ensures, c.enum_told-in-FreeRunTimer-1.given.1, to_z-of_z {w = w32} {z = z} (search rules)))
+
+pub returns-in-WDTimer : goal.returns-in-WDTimer
+unfolding service_bytes
+returns-in-WDTimer c = let a = c.args in own a.r a.s a.v a.w _ (λ d cs. simp (c.timer.ensures, c.enum_told-in-WDTimer-1.given.1))
+
+pub returns-in-ModuleConfig : goal.returns-in-ModuleConfig
+unfolding service_bytes
+returns-in-ModuleConfig c = let a = c.args in own a.r a.s a.v a.w _ (λ d cs. simp (c.config.ensures, c.enum_told-in-ModuleConfig-1.given.1))
+
+pub returns-in-WDPreset : goal.returns-in-WDPreset
+unfolding service_bytes
+returns-in-WDPreset c = let a = c.args in own a.r a.s a.v a.w _ (λ d cs. simp (c.timer-in-WDPreset.ensures, c.enum_told-in-WDPreset-1.given.1))
+
+pub returns-in-WriteEnable : goal.returns-in-WriteEnable
+unfolding service_bytes
+returns-in-WriteEnable c = let a = c.args in own a.r a.s a.v a.w _ (λ d cs. simp (c.truth.ensures, c.enum_told-in-WriteEnable-1.given.1))
+
+pub returns-in-CommonError : goal.returns-in-CommonError
+unfolding service_bytes
+returns-in-CommonError c =
+    let a = c.args in
+    let l : length c.common_error.result ≡ 12 = search rules in
+    let r = c.enum_told-in-CommonError-1.given.1 in (
+      λ d cs n e. simp (c.twelve.ensures, c.common_error.ensures (box_of a.s a.v d cs) refl n e, r),
+      rw r (held-size _ _ _ c.twelve.ensures l),
+    )

@@ -1,0 +1,17 @@
+use mathlib.Core.Path.{◌≡◌}
+use lib.ListN.{length, length-map}
+use Rattle.ticks.proofs.Whole.{whole}
+use Rattle.ticks.proofs.tick.Goals as goal
+
+pub returns : goal.returns
+returns c =
+    let start = c in
+    let m = start.args.m in
+    let n : length m.channels ≡ 16 = rw length-map at start.well-formed.0.1.1.1.1.0.1.0.1 in
+    simp (
+      c.tick_data.ensures,
+      c.tick_channels.ensures,
+      c.save_due-due.ensures,
+      c.begin-b.ensures,
+    )
+    (whole m n)
