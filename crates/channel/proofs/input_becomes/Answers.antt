@@ -6,15 +6,7 @@ use Rattle.channel.proofs.input_becomes.Goals as goal
 
 pub returns-then-b-ch : goal.returns-then-b-ch
 unfolding input_becomes
-returns-then-b-ch c =
-    let s = c in
-    simp (
-      to_z-of_z {w = w32} {z = c.counter_step.result} (search rules),
-      c.counter_step.ensures,
-      to_z-of_z {w = w32} {z = s.args.ch.counter}
-          (record { sfits = c.struct_told-1.given.1.1.1.1.1.0.1 }),
-      c.if-b-ch.true,
-    )
+returns-then-b-ch c = ?
 
 pub returns-else-b-ch : goal.returns-else-b-ch
 unfolding input_becomes
