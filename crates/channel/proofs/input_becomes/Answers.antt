@@ -6,7 +6,13 @@ use Rattle.channel.proofs.input_becomes.Goals as goal
 
 pub returns-then-b-ch : goal.returns-then-b-ch
 unfolding input_becomes
-returns-then-b-ch c = ?
+returns-then-b-ch c =
+    simp (
+      to_z-of_z {w = w32} {z = c.counter_step.result} (search rules),
+      c.counter_step.ensures,
+      to_z-of_z {w = w32} {z = c.args.ch.counter} (search rules),
+      c.if-b-ch.true,
+    )
 
 pub returns-else-b-ch : goal.returns-else-b-ch
 unfolding input_becomes
