@@ -13,6 +13,6 @@ unfolding load_bits
 returns c =
     let a = c.args in
     let ch = a.ch in
-    rw (c.weigh-2.ensures, c.leaks.ensures, c.weigh.ensures, c.not_input-driven.ensures, c.functions-driven.ensures, c.simulates_input-wired.ensures)
+    rw (c.weigh-2.ensures, c.leaks.ensures, c.weigh.ensures, c.not_input-driven.ensures, c.functions.ensures, c.simulates_input-wired.ensures)
     (off-bits (below_minimum ch.currents) (is_negative (fb_timer_of ch)) (enables_underload ch) (not (simulates_input ch)) (in_flag_of ch) (not_input (functions ch))
     (leaks a.s ch.currents) (has over_load ch.errors.act))
