@@ -1,5 +1,6 @@
 use mathlib.Core.Path.{◌≡◌}
-use lib.ListN.{length, length-map}
+use lib.ListN.{length}
+use borrow.Author.Rules.{rules}
 use Rattle.ticks.proofs.Whole.{whole}
 use Rattle.ticks.proofs.tick.Goals as goal
 
