@@ -7,13 +7,11 @@ use Rattle.questions.proofs.look_up_reply.Goals as goal
 pub returns-then-not-known : goal.returns-then-not-known
 unfolding look_up_reply
 returns-then-not-known c =
-    let k = c.args.k in
-    simp (c.if-not-known.true)
+    simp c.if-not-known.true
 
 pub returns-then-not-is_finite : goal.returns-then-not-is_finite
 unfolding look_up_reply
 returns-then-not-is_finite c =
-    let k = c.args.k in
     simp (
       c.if-not-known.false,
       sym c.is_finite.ensures ∙ c.if-not-is_finite.true,
@@ -22,7 +20,6 @@ returns-then-not-is_finite c =
 pub returns : goal.returns
 unfolding look_up_reply
 returns c =
-    let k = c.args.k in
     simp (
       c.if-not-known.false,
       sym c.is_finite.ensures ∙ c.if-not-is_finite.false,
