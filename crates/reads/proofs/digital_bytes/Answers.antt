@@ -19,7 +19,7 @@ returns-in-Counter c =
       c.signed.ensures,
       c.in-Counter.is,
       to_z-of_z {w = w32} {z = z}
-          (record { sfits = c.struct_told-1.given.1.1.1.1.1.0.1 }),
+          (search rules),
     )
 
 pub returns-in-OutCurrent : goal.returns-in-OutCurrent

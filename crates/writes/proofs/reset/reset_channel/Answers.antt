@@ -11,5 +11,5 @@ returns c =
     simp (
       c.no_windows-next.ensures,
       c.no_errors-errors.ensures,
-      to_z-of_z {w = w32} {z = ch.kept.counter} (record { sfits = c.struct_told-1.given.1.0.1 }),
+      to_z-of_z {w = w32} {z = ch.kept.counter} (search rules),
     )
