@@ -1,4 +1,5 @@
 use lib.Ieee.{of_int, of_bits}
+use borrow.Author.Rules.{rules}
 use mir.Facts.{to_z-of_z}
 use mir.Syntax.{w32}
 use Rattle.model.specs.Restored.{restored}
