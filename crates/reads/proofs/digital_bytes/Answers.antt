@@ -1,3 +1,4 @@
+use borrow.Author.Rules.{rules}
 use mir.Facts.{to_z-of_z}
 use mir.Syntax.{w32}
 use Rattle.model.specs.Reads.{digital_bytes}
