@@ -22,10 +22,10 @@ returns c =
     let number = ap number_of e.1 in
     let bytes = are-bytes img (λ i. (c.shared_slice_known-1.given i).fits) in
     record {
-      answer-is = ap (λ (q : Reply). answer_of q [] false false 0) e.1;
-      box-is = e.0;
-      runs-add-up = subst RunsAddUp (sym e.0) (runs.add-up (power_up img) (sixteen img));
+      answer_is = ap (λ (q : Reply). answer_of q [] false false 0) e.1;
+      box_is = e.0;
+      runs_add_up = subst RunsAddUp (sym e.0) (runs.add_up (power_up img) (sixteen img));
       learns_nothing = λ ok. subst LearnsNothing (sym e.0) (two-lists img (sym number ∙ ok));
-      stored-again = λ ok long. ap (λ (m : Module). encode (setup_of m)) e.0 ∙ images.again img bytes long (sym number ∙ ok);
+      stored_again = λ ok long. ap (λ (m : Module). encode (setup_of m)) e.0 ∙ images.again img bytes long (sym number ∙ ok);
       renewed = λ ok. ap (λ (m : Module). power_up (encode (setup_of m))) e.0 ∙ (images.renewed img bytes (sym number ∙ ok)).1 ∙ sym e.0;
     }

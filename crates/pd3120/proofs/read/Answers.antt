@@ -9,8 +9,8 @@ pub returns : goal.returns
 returns c =
     let start = c in
     let m = start.args.m in
-    let l : length m.channels ≡ 16 = rw length-map at start.well-formed.0.1.1.1.1.0.1.0.1 in
+    let l : length m.channels ≡ 16 = rw length-map at start.well_formed.0.1.1.1.1.0.1.0.1 in
     let at = c.wire_slot-at.ensures.0 in
     let own = ap (λ (i : ℕ). get_or m.channels i nothing) (sym at) in
-    let has : Has m.shared m.service _ _ m = record { shared-is = refl; service-is = refl; sixteen = l; channel-is = own } in
+    let has : Has m.shared m.service _ _ m = record { shared_is = refl; service_is = refl; sixteen = l; channel_is = own } in
     rw at (c.read_changes-done.ensures.0 m has refl c.of_channels.ensures)

@@ -15,7 +15,7 @@ returns c =
     let lent = s.buf-1.now in
     let e = stored_answer m lent r.result _ r.ensures.0 r.ensures.1 in
     record {
-      answer-is = e;
-      powers-up = λ reached ok. subst (λ (l : List ℕ). PowersUpTo m (take 886 l)) (ap (λ a. a.buffer) (sym e))
+      answer_is = e;
+      powers_up = λ reached ok. subst (λ (l : List ℕ). PowersUpTo m (take 886 l)) (ap (λ a. a.buffer) (sym e))
           (images.back m reached lent (roomy lent r.result r.ensures.0 ok));
     }
