@@ -1,6 +1,6 @@
 use native.Mathlib.Nat.{le_trans, mul-le-mul_right, div-mul-le_self}
 use native.Mathlib.Omega.{arith}
-use Prim.Native.Nat.{ℕ, ◌*◌, ◌-◌, ◌/◌, ◌≤◌}
+use Prim.Native.Nat.{ℕ, ◌*◌, ◌/◌, ◌≤◌}
 use Rattle.script.proofs.digits.parse_number.Goals as goal
 
 -- a number that the first test lets pass leaves room for its product with the base
