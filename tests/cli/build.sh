@@ -34,7 +34,7 @@ for crate in low middle ${slow:+"$name"}; do
     : >"../$crate/out/rlib/stamp"
 done
 case $1 in
-run) cp "$PLAYER" out/new && mv out/new "out/$name" && "out/$name" ;;
+run) cp "$REAL_PLAYER" out/new && mv out/new "out/$name" && "out/$name" ;;
 lib) : >"out/lib$name.a" ;;
 esac
 RT
@@ -46,7 +46,7 @@ copied() { # STATUS COMMAND..
     expected=$1
     shift
     : >"$work/rt.calls"
-    run "$expected" env PLAYER="$root/crates/play/out/play" PATH="$work/bin:$PATH" "$copy/pd3120" "$@"
+    run "$expected" env REAL_PLAYER="$root/crates/play/out/play" PATH="$work/bin:$PATH" "$copy/pd3120" "$@"
     calls=$(wc -l <"$work/rt.calls")
 }
 
