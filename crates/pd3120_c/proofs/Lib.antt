@@ -1,4 +1,3 @@
--- That a code's parts are found again, laws of the answers that are packed, and the walks of the exported functions.
+-- That a code's parts are found again, and laws of the answers that are packed.
 pub mod Laws
 pub mod Unpacked
-pub mod Walks

@@ -10,9 +10,9 @@ pub returns-then-b-ch : goal.returns-then-b-ch
 unfolding input_becomes
 returns-then-b-ch c =
     let e =
-        to_z-of_z {w = w32} {z = c.counter_step.result} (search rules)
-        ∙ c.counter_step.ensures
-        ∙ ap counter_step (to_z-of_z {w = w32} {z = c.args.ch.counter} (search rules)) in
+    to_z-of_z {w = w32} {z = c.counter_step.result} (search rules)
+    ∙ c.counter_step.ensures
+    ∙ ap counter_step (to_z-of_z {w = w32} {z = c.args.ch.counter} (search rules)) in
     rw (e, c.if-b-ch.true)
 
 pub returns-else-b-ch : goal.returns-else-b-ch

@@ -1,7 +1,6 @@
 use Rattle.image.specs.Parts.{first_five}
 use mathlib.Core.Path.{◌≡◌, ◌∙◌}
 use mathlib.Core.List.{◌++◌}
-use Prim.Native.Nat.{◌+◌}
 use native.Mathlib.Omega.{arith}
 use Rattle.buffers.proofs.Laws.Paste.{pasted-on, pasted-as}
 use Rattle.image.proofs.Laws.Halves.{regrouped, first-five}

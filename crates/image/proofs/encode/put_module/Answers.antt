@@ -1,7 +1,6 @@
 use Rattle.image.specs.Parts.{module_front}
 use mathlib.Core.Path.{◌≡◌, refl}
 use mathlib.Core.List.{[], ◌∷◌, ◌++◌}
-use Prim.Native.Nat.{◌+◌}
 use native.Mathlib.Omega.{arith}
 use Rattle.buffers.proofs.Laws.Paste.{pasted-on, pasted-as}
 use Rattle.image.proofs.encode.put_module.Goals as goal

@@ -5,16 +5,16 @@ use Rattle.pd3120_c.proofs.Laws.Lengths.{power-up-length}
 use Rattle.pd3120_c.proofs.calls.power_up.Goals as goal
 
 pub pack-requires : goal.pack-requires
-pack-requires c = power-up-length c.args.img.now c.power_up-started.result.reply c.power_up-started.ensures.answer-is
+pack-requires c = power-up-length c.args.img.now c.power_up-started.result.reply c.power_up-started.ensures.answer_is
 
 pub returns : goal.returns
 returns c =
     let e = c.power_up-started.ensures in
-    let number = ap (λ (a : Answer). a.number) e.answer-is in
+    let number = ap (λ (a : Answer). a.number) e.answer_is in
     record {
-      left = (e.box-is, c.pack.ensures ∙ ap answer_code e.answer-is);
-      runs-add-up = e.runs-add-up;
+      left = (e.box_is, c.pack.ensures ∙ ap answer_code e.answer_is);
+      runs_add_up = e.runs_add_up;
       learns_nothing = λ ok. e.learns_nothing (number ∙ ok);
-      stored-again = λ ok long. e.stored-again (number ∙ ok) long;
+      stored_again = λ ok long. e.stored_again (number ∙ ok) long;
       renewed = λ ok. e.renewed (number ∙ ok);
     }

@@ -5,14 +5,14 @@ use Rattle.pd3120_c.proofs.Laws.Lengths.{store_length}
 use Rattle.pd3120_c.proofs.calls.store.Goals as goal
 
 pub pack-requires : goal.pack-requires
-pack-requires c = let s = c.args in store_length s.m s.buf-1.now c.store-reply.result _
-    c.store-reply.ensures.answer-is
+pack-requires c = let s = c.args in store_length s.m s.buf.now c.store-reply.result _
+    c.store-reply.ensures.answer_is
 
 pub returns : goal.returns
 returns c =
     let e = c.store-reply.ensures in
     record {
-      code_is = c.pack.ensures ∙ ap answer_code e.answer-is;
-      buffer-is = ap (λ (a : Answer). a.buffer) e.answer-is;
-      powers-up = λ reached ok. e.powers-up reached (ap (λ (a : Answer). a.number) e.answer-is ∙ ok);
+      code_is = c.pack.ensures ∙ ap answer_code e.answer_is;
+      buffer_is = ap (λ (a : Answer). a.buffer) e.answer_is;
+      powers_up = λ reached ok. e.powers_up reached (ap (λ (a : Answer). a.number) e.answer_is ∙ ok);
     }
