@@ -5,33 +5,37 @@ mkdir -p "$copy/tools" "$work/bin" "$work/elsewhere"
 cp pd3120 VERSION "$copy"
 cp -R tools/cli "$copy/tools"
 cp -R examples "$copy"
-printf 'low:\nmiddle: low\nplay: middle io\npd3120_c: middle\ncharge_c: low\n' >"$copy/crates.txt"
+printf 'low:\nmiddle: low\nplay: middle\npd3120_c staticlib: middle\ncharge_c staticlib: low\n' >"$copy/crates.txt"
 for crate in low middle play pd3120_c charge_c; do
     mkdir -p "$copy/crates/$crate/src"
     : >"$copy/crates/$crate/src/lib.rt"
 done
 
-# Proves what has no stamp, as rt does, and writes down each crate. With the file "refused" there, the crate "low" is refused.
+# Builds the libraries that have no stamp, as rt does in the folder of a crate that rests on them, and then what the crate is.
+# With the file "refused" at the top, the crate "low" is refused.
 cat >"$work/bin/rt" <<'RT'
 #!/bin/sh
-echo "$*" >>../rt.calls
-mkdir -p target/bin target/stamp target/log target/staticlib
-if [ -e refused ]; then
-    printf '%s\n' "$PWD/crates/low/proofs/f/Proof.antt:18:19: error: \`f-spec\`: no proof" \
-        "$PWD/crates/low/proofs/g/Proof.antt:5:1: error: \`g-spec\`: \`f\` was not admitted, so this cannot be checked" \
-        'rt: low NOT PROVED (exit 1, 2 s)' 'rt: play NOT PROVED: its dependency middle is not proved'
+echo "$*" >>../../../rt.calls
+if [ -e ../../refused ]; then
+    printf '%s\n' 'rt: chose --jobs 2 for low' '1/2' "./proofs/f/Answers.antt:18:19: error: \`returns\`: no proof" \
+        "./proofs/g/Answers.antt:5:1: error: \`returns\`: \`f\` was not admitted, so this cannot be checked" \
+        'note: src/lib.rt:19:9: it is not proved that what the function ensures holds when it returns (`returns`)' \
+        'logic=not-proved functions=1' 'rt: the library low did not build, so nothing above it was checked'
     exit 1
 fi
-for crate in low middle ${slow:+play}; do
-    [ -e "target/stamp/$crate" ] && continue
-    : >"target/log/$crate.out"
-    [ -z "${slow:-}" ] || sleep 2
-    echo "rt: $crate proved (1 s)" >"target/log/$crate.out"
-    : >"target/stamp/$crate"
+name=${PWD##*/}
+mkdir -p out
+for crate in low middle ${slow:+"$name"}; do
+    [ -e "../$crate/out/rlib/stamp" ] && continue
+    echo "rt: chose --jobs 2 for $crate"
+    [ -z "${slow:-}" ] || sleep 3
+    echo 'logic=proved functions=1'
+    mkdir -p "../$crate/out/rlib"
+    : >"../$crate/out/rlib/stamp"
 done
 case $1 in
-check) [ "$2" != play ] || { cp "$PLAYER" target/bin/new && mv target/bin/new target/bin/play && : >target/stamp/play; } ;;
-staticlib) : >"target/staticlib/lib$2.a" ;;
+run) cp "$REAL_PLAYER" out/new && mv out/new "out/$name" && "out/$name" ;;
+lib) : >"out/lib$name.a" ;;
 esac
 RT
 printf '#!/bin/sh\n' >"$work/bin/cargo"
@@ -42,7 +46,7 @@ copied() { # STATUS COMMAND..
     expected=$1
     shift
     : >"$work/rt.calls"
-    run "$expected" env PLAYER="$root/target/bin/play" PATH="$work/bin:$PATH" "$copy/pd3120" "$@"
+    run "$expected" env REAL_PLAYER="$root/crates/play/out/play" PATH="$work/bin:$PATH" "$copy/pd3120" "$@"
     calls=$(wc -l <"$work/rt.calls")
 }
 
@@ -77,12 +81,13 @@ quiet
 # The libraries after the player: only their own crates are due.
 copied 0 lib
 err_has 'the C libraries: of 4 crates at most 2 are to be proved'
-[ "$calls" -eq 3 ] || fail "lib calls rt $calls times"
+[ "$calls" -eq 2 ] || fail "lib calls rt $calls times"
+[ -e "$copy/target/staticlib/libpd3120_c.a" ] && [ -e "$copy/target/staticlib/libcharge_c.a" ] || fail 'the archives are not in one folder'
 copied 0 lib
 [ "$calls" -eq 0 ] || fail 'fresh libraries are built again'
 
 # Progress, crate by crate.
-rm -rf "$copy/target"
+rm -rf "$copy/target" "$copy"/crates/*/out
 slow=1
 export slow
 copied 0 play "$work/right.calls"
@@ -94,8 +99,9 @@ err_has ' s so far'
 # A proof that fails: what is wrong, first, and nothing of what only rests on it.
 touch "$copy/crates/low/src/lib.rt" "$copy/refused"
 copied 2 play "$work/right.calls"
-grep -v '^pd3120: the player: ' "$work/err" | head -n 1 | grep -qx 'crates/low/proofs/f/Proof.antt:18:19: error: `f-spec`: no proof' ||
+grep -v '^pd3120: the player: ' "$work/err" | head -n 1 | grep -qx 'crates/low/proofs/f/Answers.antt:18:19: error: `returns`: no proof' ||
     fail 'the first error does not come first'
+err_has 'crates/low/src/lib.rt:19:9: it is not proved that'
 err_has 'target/pd3120.log has all of it'
 ! grep -q 'cannot be checked' "$work/err" || fail 'an error that only follows is shown'
 rm "$copy/refused"

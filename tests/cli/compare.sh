@@ -1,7 +1,7 @@
 # A library that differs from the model: the copy of the command plays with a player that answers ticks wrongly, and
 # stand-ins take the place of building. Sourced by tests/cli/run.
 
-printf '#!/bin/sh\n"%s" | sed "s/^tick 0/tick 1/"\n' "$root/target/bin/play" >"$copy/target/bin/play"
+printf '#!/bin/sh\n"%s" | sed "s/^tick 0/tick 1/"\n' "$root/crates/play/out/play" >"$copy/crates/play/out/play"
 copied 1 compare 007 0200
 kept=$(sed -n 's/.*to play it again: .\/pd3120 compare --script //p' "$work/err")
 [ -s "$copy/$kept" ] || fail 'no script is kept'
@@ -14,5 +14,5 @@ err_has 'seed 7, kind '
 copied 1 compare --script "$copy/$kept"
 err_has '  model   tick 0'
 err_has '  library tick 1'
-cp target/bin/play "$copy/target/bin/play"
+cp crates/play/out/play "$copy/crates/play/out/play"
 copied 0 compare --script "$copy/$kept"

@@ -1,5 +1,8 @@
 # Proving and building what a command needs, once for each change of its sources. Sourced by ./pd3120.
 
+# The player, where rt builds it. An archive is built by rt as crates/NAME/out/libNAME.a, and copied to one folder, where
+# the headers' users, tests and bindings/rust find both.
+PLAYER=crates/play/out/play
 ARCHIVE=target/staticlib/libpd3120_c.a
 CHARGE=target/staticlib/libcharge_c.a
 
@@ -19,13 +22,13 @@ crates() { # NAME..
             return seen[name] = due
         }
         { sub(/#.*/, "") }
-        split($0, part, ":") == 2 { gsub(/[ \t]/, "", part[1]); rests_on[part[1]] = part[2] }
+        split($0, part, ":") == 2 { split(part[1], head, " "); rests_on[head[1]] = part[2] }
         END { count = split(names, name, " "); for (k = 1; k <= count; k++) visit(name[k]) }
     ' crates.txt
 }
 
-# Whether something of a crate is newer than a file. Its must-fail edits and what its program is tried on are no part of
-# what is built.
+# Whether something of a crate is newer than a file. What was built of it, its must-fail edits and what its program is tried
+# on are no part of what it is built from.
 newer() { # FILE NAME..
     since=$1 folders=
     shift
@@ -33,7 +36,7 @@ newer() { # FILE NAME..
         folders="$folders crates/$name"
     done
     # shellcheck disable=SC2086
-    [ -n "$(find $folders \( -name must-fail -o -name stdin -o -name stdout \) -prune -o -path 'crates/*/*' -newer "$since" -print | head -n 1)" ]
+    [ -n "$(find $folders \( -name out -o -name must-fail -o -name stdin -o -name stdout \) -prune -o -path 'crates/*/*' -newer "$since" -print | head -n 1)" ]
 }
 
 # The later of the file that a build made and of its mark here. A build that finds nothing to do makes the mark alone.
@@ -50,11 +53,21 @@ fresh() { # FILE NAME..
     ! [ crates.txt -nt "$since" ] && ! newer "$since" $(crates "$@")
 }
 
+# What a build leaves of a crate: of the player the program, of a C boundary the archive, of a library the stamp.
+left_of() { # NAME
+    case $1 in
+    play) echo "$PLAYER" ;;
+    *_c) echo "crates/$1/out/lib$1.a" ;;
+    *) echo "crates/$1/out/rlib/stamp" ;;
+    esac
+}
+
 # The crates among all that the named ones rest on that are to be proved, or may be: rt looks at the content.
 due() { # NAME..
     changed=
     for crate in $(crates_all "$@"); do
-        if [ ! -e "target/stamp/$crate" ] || newer "$(latest "target/stamp/$crate" "$BUILT/$crate")" "$crate"; then
+        left=$(left_of "$crate")
+        if [ ! -e "$left" ] || newer "$(latest "$left" "$BUILT/$crate")" "$crate"; then
             changed="$changed $crate"
         fi
     done
@@ -78,16 +91,14 @@ lasting() { # SECONDS
     if [ "$1" -lt 60 ]; then echo "$1 s"; else echo "$(($1 / 60)) min $(($1 % 60)) s"; fi
 }
 
-# Says on standard error, as long as it runs, which crates are being proved.
+# Says on standard error, as long as it runs, which crate is being proved: rt takes one after the other, and says in its log
+# which one begins.
 progress() { # NAME..
     began=$(date +%s) said=
     while sleep 1; do
-        proved=0 now=
-        for crate; do
-            [ "target/log/$crate.out" -nt "$BUILT/began" ] || continue
-            if grep -q "^rt: $crate " "target/log/$crate.out"; then proved=$((proved + 1)); else now="$now $crate"; fi
-        done
-        line="pd3120: ${archive:+$archive: }$proved of $# crates proved${now:+, now}$now; $(lasting $(($(date +%s) - began))) so far"
+        proved=$(grep -c '^logic=proved ' target/pd3120.log || :)
+        now=$(sed -n 's/^rt: chose --jobs [0-9]* for //p' target/pd3120.log | tail -n 1)
+        line="pd3120: ${archive:+$archive: }$proved of $# crates proved${now:+, now $now}; $(lasting $(($(date +%s) - began))) so far"
         if [ -t 2 ]; then
             printf '\r\033[K%s' "$line" >&2
         elif [ "$now" != "$said" ]; then
@@ -97,27 +108,31 @@ progress() { # NAME..
     done
 }
 
-# The first errors of a log, with file and line. What only rests on something that was refused is left out.
+# The first errors of a log, with file and line, which rt gives from the crate's folder. What only rests on something that
+# was refused is left out.
 errors() { # LOG
-    ROOT=$PWD/ awk '
+    awk '
+        /^rt: chose --jobs / { at = "crates/" $NF "/"; next }
         /so this cannot be checked/ { next }
         /: error(\[[^]]*\])?: / || /: it is not proved that / {
-            if (index($0, ENVIRON["ROOT"]) == 1) $0 = substr($0, length(ENVIRON["ROOT"]) + 1)
-            print substr($0, 1, 300)
+            sub(/^note: /, "")
+            sub(/^\.\//, "")
+            print substr(($0 ~ /^(src|specs|proofs)\// ? at : "") $0, 1, 300)
             if (++found == 5) exit
         }
     ' "$1"
 }
 
-# Runs a command of the kit, with its progress, and keeps what it says in a log.
-prove() { # WHAT COMMAND..
-    what=$1
-    shift
+# Runs a command of the kit in a crate's folder, with its progress, and keeps what it says in a log.
+prove() { # WHAT CRATE COMMAND..
+    what=$1 of=$2
+    shift 2
+    : >target/pd3120.log
     # shellcheck disable=SC2086
     progress $due &
     watching=$!
     status=0
-    "$@" >target/pd3120.log 2>&1 </dev/null || status=$?
+    (cd "crates/$of" && "$@") >>target/pd3120.log 2>&1 </dev/null || status=$?
     kill "$watching" 2>/dev/null
     wait "$watching" 2>/dev/null || :
     [ ! -t 2 ] || printf '\r\033[K' >&2
@@ -137,7 +152,7 @@ begin() { # WHAT NAME..
     total=$(count $(crates "$@"))
     many=$(count $due)
     case $many in
-    "$total") printf 'pd3120: %s: all %s crates are to be proved, which takes 5 to 10 minutes\n' "$what" "$total" >&2 ;;
+    "$total") printf 'pd3120: %s: all %s crates are to be proved, which takes long the first time\n' "$what" "$total" >&2 ;;
     0) ;;
     *) printf 'pd3120: %s: of %s crates at most %s are to be proved\n' "$what" "$total" "$many" >&2 ;;
     esac
@@ -154,28 +169,35 @@ built() { # FILE NAME..
     done
 }
 
+# rt runs what it has built: a player without input, which answers nothing.
 player() {
-    fresh target/bin/play play && return
+    fresh "$PLAYER" play && return
     begin 'the player' play
-    prove 'the player' rt check play
-    built target/bin/play play
+    prove 'the player' play rt run
+    built "$PLAYER" play
 }
 
-# An archive. Its own crate is proved again for it.
+# Puts an archive where its users find it, at once or not at all.
+place() { # NAME
+    mkdir -p target/staticlib
+    cp "crates/$1/out/lib$1.a" "target/staticlib/lib$1.new"
+    mv "target/staticlib/lib$1.new" "target/staticlib/lib$1.a"
+}
+
+# An archive, in its place.
 archive() { # FILE NAME
     fresh "$1" "$2" && return
     archive=${1##*/}
-    prove "$archive" rt staticlib "$2"
+    prove "$archive" "$2" rt lib
     archive=
+    place "$2"
     built "$1" "$2"
 }
 
-# The archives of the box and of the charge. What both rest on is proved first, on all cores.
+# The archives of the box and of the charge.
 library() {
     if fresh "$ARCHIVE" pd3120_c && fresh "$CHARGE" charge_c; then return; fi
     begin 'the C libraries' pd3120_c charge_c
-    # shellcheck disable=SC2046
-    prove 'the C libraries' rt check $(crates pd3120_c charge_c | grep -vx -e pd3120_c -e charge_c)
     archive "$ARCHIVE" pd3120_c
     archive "$CHARGE" charge_c
 }

@@ -7,6 +7,6 @@ check() {
     work=$(mktemp -d)
     trap 'rm -rf "$work"' EXIT
     cat ${script:+"$script"} >"$work/calls"
-    target/bin/play <"$work/calls" >"$work/answers" || stop "$1: the player ended too soon"
+    "$PLAYER" <"$work/calls" >"$work/answers" || stop "$1: the player ended too soon"
     NAME=$1 ANSWERS=$work/answers LC_ALL=C awk -f tools/cli/check.awk "$work/calls"
 }

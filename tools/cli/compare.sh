@@ -53,7 +53,7 @@ sides() {
 # Plays $work/calls through the model and through the library's player.
 both() {
     "$built/play" <"$work/calls" >"$work/model"
-    target/bin/play <"$work/calls" >"$work/library"
+    "$PLAYER" <"$work/calls" >"$work/library"
 }
 
 same() {
@@ -107,7 +107,7 @@ again() { # FILE
 two_lists() {
     "$built/lists" make "$seed" 500 "$work/lists" >/dev/null
     for list in first second; do
-        target/bin/play <"$work/lists/$list.calls" >"$work/lists/$list.answers"
+        "$PLAYER" <"$work/lists/$list.calls" >"$work/lists/$list.answers"
     done
     "$built/lists" check "$work/lists" || {
         mkdir -p "$KEPT"

@@ -32,7 +32,7 @@ usage: ./pd3120 play [FILE]              play a script of calls, from standard i
 
 It ends with 0; with 1 where it found something wrong (a line that is no call, an answer that differs, output that can't
 be written); with 2 where it could do nothing (a wrong word, no such file, a proof that fails).
-What a command needs is proved and built where a source has changed since; at first that takes 5 to 10 minutes.
+What a command needs is proved and built where a source has changed since; the first time that takes long.
 HELP
 }
 

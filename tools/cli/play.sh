@@ -18,7 +18,7 @@ find_script() { # WORD
 # Plays standard input. The answers go to descriptor 3 and, with what went wrong beside them, to descriptor 4, where the
 # last answer may be cut.
 watched() {
-    { target/bin/play 2>/dev/null || printf '\nended\n' >&4; } |
+    { "$PLAYER" 2>/dev/null || printf '\nended\n' >&4; } |
         { tee /dev/fd/4 >&3 2>/dev/null || printf '\nunwritten %s\n' "$?" >&4; }
 }
 
@@ -54,7 +54,7 @@ demo() {
     player
     work=$(mktemp -d)
     trap 'rm -rf "$work"' EXIT
-    target/bin/play <examples/wellhead.calls >"$work/answers"
+    "$PLAYER" <examples/wellhead.calls >"$work/answers"
     awk -v answers="$work/answers" '
         function short(text) { return length(text) > 48 ? substr(text, 1, 45) "..." : text }
         /^# ->/ { next }

@@ -167,6 +167,7 @@ impl std::error::Error for ChargeRefusal {}
 mod tests {
     use super::*;
     use std::string::ToString;
+    use std::vec;
 
     #[test]
     fn each_refusal_has_its_number_and_a_sentence_of_its_own() {
@@ -189,7 +190,10 @@ mod tests {
         let limited = [1, 2, 3, 4, 5].map(block);
         let made = |count: usize| Tariff::new(&limited[..count], 9);
         assert_eq!((made(0).blocks, made(0).prices[0]), (1, 9));
-        assert_eq!((made(2).blocks, &made(2).limits[..2]), (3, &[10, 20][..]));
+        assert_eq!(
+            (made(2).blocks, made(2).limits[..2].to_vec()),
+            (3, vec![10, 20])
+        );
         assert_eq!(made(2).prices[..3], [1, 2, 9]);
         let full = Tariff {
             blocks: 4,

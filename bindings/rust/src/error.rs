@@ -186,7 +186,7 @@ mod tests {
     }
 
     #[test]
-    fn an_error_shows_its_number_and_sentence_and_of_a_wire_call_its_swno() {
+    fn an_error_shows_its_number_and_sentence() {
         let error = Error {
             refusal: Refusal::ImageLength,
             bits: None,
@@ -194,6 +194,16 @@ mod tests {
         };
         let shown = "refused by 10: the setup image has neither 717 nor 886 bytes";
         assert_eq!(error.to_string(), shown);
+    }
+
+    #[test]
+    fn an_error_of_a_wire_call_shows_its_swno_before_that() {
+        let error = Error {
+            refusal: Refusal::ImageLength,
+            bits: None,
+            swno: None,
+        };
+        let shown = "refused by 10: the setup image has neither 717 nor 886 bytes";
         for (swno, start) in [(0x0D, "SWNo $D: "), (0xFFFF, "SWNo $FFFF: ")] {
             let wire = Error {
                 swno: Some(swno),

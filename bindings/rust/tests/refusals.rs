@@ -6,30 +6,22 @@ use common::{shown, ticks_open, used};
 use pd3120::{Error, Pd3120, Window};
 
 const LENT: [u8; 16] = [0xA5; 16];
-const INFINITE: [u8; 4] = 0x7F80_0000_u32.to_be_bytes();
+const INFINITE: [u8; 4] = f32::INFINITY.to_be_bytes();
 
 /// A read that must be refused, with its buffer untouched.
 fn refused_read(module: &mut Pd3120, swno: u16, length: usize) -> Error {
     let mut buffer = LENT;
     let error = module.read(swno, &mut buffer[..length]).unwrap_err();
-    assert_eq!((buffer, error.swno), (LENT, Some(swno)));
+    assert_eq!(buffer, LENT);
     error
 }
 
 fn refused_write(module: &mut Pd3120, swno: u16, bytes: &[u8]) -> Error {
-    let error = module.write(swno, bytes).unwrap_err();
-    assert_eq!(error.swno, Some(swno));
-    error
-}
-
-/// The number of a call that is no wire call, which answers nothing else.
-fn number_alone(error: Error) -> u8 {
-    assert_eq!((error.bits, error.swno), (None, None));
-    error.number()
+    module.write(swno, bytes).unwrap_err()
 }
 
 #[test]
-fn each_wire_call_is_refused_by_its_number_and_keeps_its_swno_and_its_two_bits() {
+fn each_wire_call_is_refused_by_its_number_and_keeps_its_two_bits() {
     let mut module = used();
     let before = shown(&module);
     let refused = [
@@ -85,7 +77,8 @@ fn each_sample_is_refused_by_its_number() {
         (9, module.sample(16, true, f32::NEG_INFINITY)),
     ];
     for (number, answer) in refused {
-        assert_eq!(number_alone(answer.unwrap_err()), number);
+        let error = answer.unwrap_err();
+        assert_eq!((error.number(), error.bits), (number, None));
     }
     assert_eq!(shown(&module), before);
 }
@@ -118,7 +111,8 @@ fn the_minute_and_windows_are_refused_by_their_numbers_in_order() {
         ),
     ];
     for (number, answer) in refused {
-        assert_eq!(number_alone(answer.unwrap_err()), number);
+        let error = answer.unwrap_err();
+        assert_eq!((error.number(), error.bits), (number, None));
     }
     assert_eq!(shown(&module), before);
     // The minute is 30 still, and the window that of before: it closes at 40.
@@ -131,7 +125,7 @@ fn storing_is_refused_without_room_and_leaves_the_buffer() {
     for length in [0, 1, 717, 885] {
         let mut buffer = vec![0xA5; length];
         let error = module.store(&mut buffer).unwrap_err();
-        assert_eq!(number_alone(error), 14);
+        assert_eq!((error.number(), error.bits), (14, None));
         assert!(buffer.iter().all(|&byte| byte == 0xA5));
     }
 }
@@ -173,7 +167,8 @@ fn a_lookup_is_refused_by_its_table_and_then_by_its_x() {
         (7, module.look_up(2, f32::NEG_INFINITY)),
     ];
     for (number, answer) in refused {
-        assert_eq!(number_alone(answer.unwrap_err()), number);
+        let error = answer.unwrap_err();
+        assert_eq!((error.number(), error.bits), (number, None));
     }
     assert_eq!(shown(&module), before);
 }
@@ -194,20 +189,9 @@ fn each_bad_image_is_refused_by_its_number_and_gives_the_box_of_zero_settings() 
     ];
     for (number, image) in bad {
         let error = Pd3120::power_up(&image).unwrap_err();
-        assert_eq!(number_alone(error), number);
+        assert_eq!((error.number(), error.bits), (number, None));
         let mut module = used();
         assert_eq!(module.power_up_again(&image), Err(error));
         assert_eq!(shown(&module), shown(&Pd3120::default()), "{number}");
     }
-}
-
-#[cfg(feature = "std")]
-#[test]
-fn a_refusal_is_an_error_of_std() {
-    fn refused() -> Result<(), Box<dyn std::error::Error>> {
-        Pd3120::default().write(0x13C, &[0; 80])?;
-        Ok(())
-    }
-    let shown = refused().unwrap_err().to_string();
-    assert!(shown.starts_with("SWNo $13C: refused by 6: "), "{shown}");
 }

@@ -1,6 +1,6 @@
 -- Demand 1: a number is given exactly where its question is the first whose answer is no, 0 exactly where all are yes, and a refused call leaves the lent buffer
 -- and the box as document 01 says (Questions 16 and 17). The proof is in proofs/Refusals.antt.
-use Rattle.std.specs.Prelude.{◌≡◌, Bool, true, false, List, [], ◌∷◌, ◌++◌, ℕ, suc, pos, length, replicate, set, Float}
+use Rattle.std.specs.Prelude.{◌≡◌, Bool, true, false, List, [], ◌∷◌, ◌++◌, ℕ, suc, pos, replicate, set, Float}
 use Rattle.std.specs.Float.{binary32}
 use Rattle.std.specs.Float.Ieee.{of_bits}
 use Rattle.std.specs.Float.Ieee.Scale.{finite}

@@ -3,7 +3,7 @@ ghost use Rattle.std.specs.Prelude.{◌<◌};
 
 use crate::answer::end_line;
 use crate::convert::convert;
-use libc::STDOUT_FILENO;
+use std::io;
 
 fn is_digit(b: u8) -> bool {
     if b <= b'9' {
@@ -46,23 +46,22 @@ fn byte_at(line: &[u8; 12], at: usize) -> u8
     value(line[at]) * 16 + value(line[at + 1])
 }
 
-fn answer(line: &[u8; 12]) {
+fn answer(out: &impl Print, line: &[u8; 12]) -> io::Result<()> {
     let a = byte_at(line, 3);
     let b = byte_at(line, 5);
     let c = byte_at(line, 7);
     let d = byte_at(line, 9);
-    convert(line[0], line[1], a, b, c, d);
-    end_line();
+    convert(out, line[0], line[1], a, b, c, d)?;
+    end_line(out)
 }
 
 // The answer stands in the line, after a space in place of the line's end.
-pub fn reply(line: [u8; 12]) {
+pub fn reply(out: &impl Print, line: [u8; 12]) -> io::Result<()> {
     let mut text = line;
     if !well_formed(&text) {
-        io::write_all(STDOUT_FILENO, b"malformed line\n");
-        return;
+        return out.write_all(b"malformed line\n");
     }
     text[11] = b' ';
-    io::write_all(STDOUT_FILENO, &text);
-    answer(&text);
+    out.write_all(&text)?;
+    answer(out, &text)
 }

@@ -30,6 +30,8 @@ pub mod tick;
 #[cfg(test)]
 mod bench;
 #[cfg(test)]
+mod limits;
+#[cfg(test)]
 mod proved_table;
 #[cfg(test)]
 mod slips;

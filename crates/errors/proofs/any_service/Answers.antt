@@ -3,4 +3,4 @@ use Rattle.errors.proofs.any_service.Goals as goal
 
 pub returns : goal.returns
 unfolding any_service
-returns c = simp e
+returns c p cs e = simp e

@@ -5,4 +5,4 @@ use Rattle.errors.proofs.common_ch_error.Goals as goal
 
 pub returns : goal.returns
 unfolding common_bytes
-returns c = simp (c.bit-act.ensures, c.bit-his.ensures, e, any_word has_his cs, any_word has_act cs)
+returns c cs n e = simp (c.bit-act.ensures, c.bit-his.ensures, e, any_word has_his cs, any_word has_act cs)

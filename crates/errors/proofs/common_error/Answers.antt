@@ -7,7 +7,7 @@ use Rattle.errors.proofs.common_error.Goals as goal
 
 pub returns : goal.returns
 unfolding common_error_bytes com_bytes bytes_of
-returns c =
+returns c m v n e =
     let cs = m.channels in
     let w = c.args.w in
     let his : w.his ≡ word_of (map has_his cs) = ap (λ (x : Words). x.his) e in

@@ -4,4 +4,4 @@ use Rattle.errors.proofs.service_byte.Goals as goal
 
 pub returns : goal.returns
 unfolding service_byte
-returns c = simp (c.byte_of.ensures, e, any_word p cs)
+returns c p cs n e = simp (c.byte_of.ensures, e, any_word p cs)

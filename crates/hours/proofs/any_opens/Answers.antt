@@ -1,5 +1,5 @@
 use mathlib.Core.Path.{◌≡◌, refl, ◌∙◌}
-use Prim.Native.Nat.{◌-◌, ◌<◌}
+use Prim.Native.Nat.{◌<◌}
 use native.Mathlib.Numerals.{add-one}
 use native.Mathlib.Omega.{arith}
 use lib.ListN.{length}
@@ -14,8 +14,8 @@ pub loop-k-preserved : goal.loop-k-preserved
 loop-k-preserved c =
     let a = c.args in
     let l = c.loop-k in
-    let h : l.k < length a.t3 = search rules in
-    (omega arith, rw (c.opens-one.ensures, l.invariant.1, add-one) (open_next a.now l.k a.t3 _ h))
+    let h : l.k < length a.windows = search rules in
+    (omega arith, rw (c.opens-one.ensures, l.invariant.1, add-one) (open_next a.now l.k a.windows _ h))
 
 pub returns : goal.returns
 returns c =

@@ -16,7 +16,7 @@ returns-then-is_done c =
     let img = c.args.img.now in
     let reply = c.power_up_reply-reply.ensures in
     let done = sym (c.is_done.ensures ∙ ap accepted reply) ∙ c.if-is_done.true in
-    (c.box_of-after.ensures ∙ started-done (power_up_reply img) img done, reply)
+    record { after = c.box_of-after.ensures ∙ started-done (power_up_reply img) img done; reply = reply }
 
 pub box_of-after-requires-2 : goal.box_of-after-requires-2
 box_of-after-requires-2 c = filled-sized _
@@ -27,4 +27,4 @@ returns c =
     let img = c.args.img.now in
     let reply = c.power_up_reply-reply.ensures in
     let refused = sym (c.is_done.ensures ∙ ap accepted reply) ∙ c.if-is_done.false in
-    (c.box_of-after-2.ensures ∙ started-refused (power_up_reply img) img refused, reply)
+    record { after = c.box_of-after-2.ensures ∙ started-refused (power_up_reply img) img refused; reply = reply }

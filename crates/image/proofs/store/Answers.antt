@@ -16,24 +16,21 @@ pub returns-then-buf-lt-IMAGE : goal.returns-then-buf-lt-IMAGE
 unfolding store_reply stored
 returns-then-buf-lt-IMAGE c =
     let e = lt-leb image_size (length c.args.buf.now) c.if-buf-lt-IMAGE.true in
-    (rw e, rw e)
+    record { reply = rw e; buffer = rw e }
 
 pub returns : goal.returns
 unfolding store_reply stored encode summed
 returns c =
-    let body = c in
-    let test = body.before.before in
-    let s = test.before.before in
-    let buf = s.args.buf.now in
+    let buf = c.args.buf.now in
     let at = sum_place sections in
-    let all = framed sections (contents_of (setup_of s.args.m)) in
+    let all = framed sections (contents_of (setup_of c.args.m)) in
     let sum = bytes_of 2 (total all % 65536) in
-    let e = le-leb image_size (length buf) test.if1.false in
-    let put = body.put-body in
-    let after = put.new.1.0 in
+    let e = le-leb image_size (length buf) c.if-buf-lt-IMAGE.false in
+    let put = c.put_body in
+    let after = put.new.buf in
     let same : bytes_of 2 (total (take at after) % 65536) ≡ sum =
     ap (λ (l : List ℕ). bytes_of 2 (total (take at l) % 65536)) put.ensures.0
     ∙ ap (λ (l : List ℕ). bytes_of 2 (total l % 65536)) (pasted-front buf all at put.ensures.1) in
     let told = c.put_sum.ensures ∙ ap (pasted after at) same in
-    let written = pasted-on buf 0 all sum put.ensures (told, length-bytes 2 (total all % 65536)) test.if1.false in
-    (rw e, rw e (written.0 ∙ pasted-start buf (all ++ sum)))
+    let written = pasted-on buf 0 all sum put.ensures (told, length-bytes 2 (total all % 65536)) c.if-buf-lt-IMAGE.false in
+    record { reply = rw e; buffer = rw e (written.0 ∙ pasted-start buf (all ++ sum)) }

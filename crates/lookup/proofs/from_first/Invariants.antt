@@ -3,7 +3,6 @@ use mathlib.Core.List.{map}
 use Prim.Native.Nat.{◌-◌, ◌≤◌}
 use lib.ListN.{drop}
 use Rattle.model.specs.Lookup.{acting_pair, pair_at, from_first}
-use Rattle.lookup.proofs.Laws.{passed}
 use Rattle.lookup.proofs.from_first.Given as goal
 
 -- `lookup::from_first` meets its contract. The loop has passed the pairs up to `before`, whose X are all below x. Assumes nothing.

@@ -19,10 +19,8 @@ returns-then-last-x c =
 
 pub returns : goal.returns
 returns c =
-    let f = c in
-    let e = f.before.before.before.before in
-    let s = e in
-    c.from_First.ensures
-    ∙ on-the-way (acts s.args.t) s.args.x e.acting_pair-first.result f.before.before.acting-pair2.result
-    (acted s.args.t.pairs 0 _ e.acting_pair-first.ensures) e.if-x-first.false
-    (acted s.args.t.pairs 9 _ f.before.before.acting-pair2.ensures) f.if2.false
+    let s = c in
+    c.from_first.ensures
+    ∙ on-the-way (acts s.args.t) s.args.x c.acting_pair-first.result c.acting_pair-last.result
+    (acted s.args.t.pairs 0 _ c.acting_pair-first.ensures) c.if-x-first.false
+    (acted s.args.t.pairs 9 _ c.acting_pair-last.ensures) c.if-last-x.false

@@ -2,7 +2,7 @@
 -- same bytes, an older one as one that holds the same, and what a setup in its ranges stores is accepted and decodes to that setup. Assumes nothing.
 use mathlib.Core.Path.{◌≡◌, refl, sym, ap, ap₂, ◌∙◌}
 use mathlib.Core.List.{List, [], ◌∷◌, ◌++◌, append-nil}
-use Prim.Native.Nat.{ℕ, ◌+◌, ◌%◌, ◌<◌}
+use Prim.Native.Nat.{ℕ, ◌%◌, ◌<◌}
 use native.Mathlib.Omega.{arith}
 use lib.Dec.{T, eqb→eq, eqb_refl, ltb→lt, lt→ltb}
 use lib.ListN.{length, take, drop, length-append, length-drop, take-append-drop}

@@ -1,6 +1,7 @@
 use mathlib.Core.Path.{sym, ap, subst, ◌∙◌}
 use mathlib.Core.Bool.{false}
 use mathlib.Core.List.{[]}
+use native.Mathlib.Omega.{arith}
 use Rattle.model.specs.declared.Module.{Module}
 use Rattle.model.specs.declared.Reply.{Reply}
 use Rattle.model.specs.Questions.{number_of}
@@ -19,13 +20,13 @@ unfolding power_up_answer
 returns c =
     let img = c.args.img.now in
     let e = c.power_up-started.ensures in
-    let number = ap number_of e.1 in
-    let bytes = are-bytes img (λ i. (c.shared_slice_known-1.given i).fits) in
+    let number = ap number_of e.reply in
+    let bytes = are-bytes img (λ i. omega (arith, c.type_inv.img i)) in
     record {
-      answer-is = ap (λ (q : Reply). answer_of q [] false false 0) e.1;
-      box-is = e.0;
-      runs-add-up = subst RunsAddUp (sym e.0) (runs.add-up (power_up img) (sixteen img));
-      learns_nothing = λ ok. subst LearnsNothing (sym e.0) (two-lists img (sym number ∙ ok));
-      stored-again = λ ok long. ap (λ (m : Module). encode (setup_of m)) e.0 ∙ images.again img bytes long (sym number ∙ ok);
-      renewed = λ ok. ap (λ (m : Module). power_up (encode (setup_of m))) e.0 ∙ (images.renewed img bytes (sym number ∙ ok)).1 ∙ sym e.0;
+      answer_is = ap (λ (q : Reply). answer_of q [] false false 0) e.reply;
+      box_is = e.after;
+      runs_add_up = subst RunsAddUp (sym e.after) (runs.add_up (power_up img) (sixteen img));
+      learns_nothing = λ ok. subst LearnsNothing (sym e.after) (two-lists img (sym number ∙ ok));
+      stored_again = λ ok long. ap (λ (m : Module). encode (setup_of m)) e.after ∙ images.again img bytes long (sym number ∙ ok);
+      renewed = λ ok. ap (λ (m : Module). power_up (encode (setup_of m))) e.after ∙ (images.renewed img bytes (sym number ∙ ok)).1 ∙ sym e.after;
     }

@@ -6,9 +6,10 @@ returns c =
     let s = c.args in
     let k = c.clear-ready in
     let r = c.read-done in
-    let p = c.preset_watchdog in (
-      λ m has xs ws. read_by m s.s s.v s.ch s.d s.w s.swno s.buf-1.now has xs ws k.result k.ensures r.result r.ensures.0
+    let p = c.preset_watchdog in
+    record {
+      step = λ m has xs ws. read_by m s.s s.v s.ch s.d s.w s.swno s.buf.now has xs ws k.result k.ensures r.result r.ensures.answer
           p.result p.ensures
-          _ r.ensures.1.0 _ _ c.data_error.ensures c.general_error.ensures,
-      r.ensures.1.1,
-    )
+          _ r.ensures.buffer _ _ c.data_error.ensures c.general_error.ensures;
+      reply = r.ensures.reply;
+    }

@@ -8,4 +8,4 @@ pub returns : goal.returns
 returns c =
     let s = c.args in
     let at = c.slot-at in
-    rw at.ensures.0 (c.take-taken.ensures s.t1 refl (ap (λ (i : ℕ). get_or s.t1.channels i nothing) (sym at.ensures.0)))
+    rw at.ensures.0 (c.take-taken.ensures s.m refl (ap (λ (i : ℕ). get_or s.m.channels i nothing) (sym at.ensures.0)))

@@ -12,10 +12,10 @@ returns c =
     let r = c.store in
     let s = c.args in
     let m = s.m in
-    let lent = s.buf-1.now in
-    let e = stored_answer m lent r.result _ r.ensures.0 r.ensures.1 in
+    let lent = s.buf.now in
+    let e = stored_answer m lent r.result _ r.ensures.reply r.ensures.buffer in
     record {
-      answer-is = e;
-      powers-up = λ reached ok. subst (λ (l : List ℕ). PowersUpTo m (take 886 l)) (ap (λ a. a.buffer) (sym e))
-          (images.back m reached lent (roomy lent r.result r.ensures.0 ok));
+      answer_is = e;
+      powers_up = λ reached ok. subst (λ (l : List ℕ). PowersUpTo m (take 886 l)) (ap (λ a. a.buffer) (sym e))
+          (images.back m reached lent (roomy lent r.result r.ensures.reply ok));
     }

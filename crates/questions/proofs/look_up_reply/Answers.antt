@@ -1,30 +1,26 @@
 use mathlib.Core.Path.{sym, ◌∙◌}
 use mathlib.Core.Bool.{◌||◌}
 use lib.Dec.{eqb}
-use borrow.Author.Tests.{not-true, not-false}
 use Rattle.model.specs.Questions.{look_up_reply}
 use Rattle.questions.proofs.look_up_reply.Goals as goal
 
 pub returns-then-not-known : goal.returns-then-not-known
 unfolding look_up_reply
 returns-then-not-known c =
-    let k = c.args.k in
-    simp (not-true (eqb k 1 || eqb k 2) c.if-not-known.true)
+    simp c.if-not-known.true
 
 pub returns-then-not-is_finite : goal.returns-then-not-is_finite
 unfolding look_up_reply
 returns-then-not-is_finite c =
-    let k = c.args.k in
     simp (
-      not-false (eqb k 1 || eqb k 2) c.if-not-known.false,
-      sym c.is_finite.ensures ∙ not-true c.is_finite.result c.if-not-is_finite.true,
+      c.if-not-known.false,
+      sym c.is_finite.ensures ∙ c.if-not-is_finite.true,
     )
 
 pub returns : goal.returns
 unfolding look_up_reply
 returns c =
-    let k = c.args.k in
     simp (
-      not-false (eqb k 1 || eqb k 2) c.if-not-known.false,
-      sym c.is_finite.ensures ∙ not-false c.is_finite.result c.if-not-is_finite.false,
+      c.if-not-known.false,
+      sym c.is_finite.ensures ∙ c.if-not-is_finite.false,
     )

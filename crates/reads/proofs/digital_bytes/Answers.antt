@@ -1,3 +1,4 @@
+use borrow.Author.Rules.{rules}
 use mir.Facts.{to_z-of_z}
 use mir.Syntax.{w32}
 use Rattle.model.specs.Reads.{digital_bytes}
@@ -5,11 +6,11 @@ use Rattle.reads.proofs.digital_bytes.Goals as goal
 
 pub returns-in-FlagReg : goal.returns-in-FlagReg
 unfolding digital_bytes
-returns-in-FlagReg c = simp (c.one.ensures, c.flag_reg.ensures, c.enum_told-1.given.1)
+returns-in-FlagReg c = simp (c.one.ensures, c.flag_reg.ensures, c.in-FlagReg.is)
 
 pub returns-in-OutTimer : goal.returns-in-OutTimer
 unfolding digital_bytes
-returns-in-OutTimer c = simp (c.timer.ensures, c.enum_told-in-OutTimer-1.given.1)
+returns-in-OutTimer c = simp (c.timer.ensures, c.in-OutTimer.is)
 
 pub returns-in-Counter : goal.returns-in-Counter
 unfolding digital_bytes
@@ -17,55 +18,55 @@ returns-in-Counter c =
     let z = c.args.ch.counter in
     simp (
       c.signed.ensures,
-      c.enum_told-in-Counter-1.given.1,
+      c.in-Counter.is,
       to_z-of_z {w = w32} {z = z}
-          (record { sfits = c.struct_told-1.given.1.1.1.1.1.0.1 }),
+          (search rules),
     )
 
 pub returns-in-OutCurrent : goal.returns-in-OutCurrent
 unfolding digital_bytes
-returns-in-OutCurrent c = simp (c.real.ensures, c.enum_told-in-OutCurrent-1.given.1)
+returns-in-OutCurrent c = simp (c.real.ensures, c.in-OutCurrent.is)
 
 pub returns-in-OperatingTime : goal.returns-in-OperatingTime
 unfolding digital_bytes
-returns-in-OperatingTime c = simp (c.operating.ensures, c.enum_told-in-OperatingTime-1.given.1)
+returns-in-OperatingTime c = simp (c.operating.ensures, c.in-OperatingTime.is)
 
 pub returns-in-UserBytes : goal.returns-in-UserBytes
 unfolding digital_bytes
-returns-in-UserBytes c = simp (c.four.ensures, c.enum_told-in-UserBytes-1.given.1)
+returns-in-UserBytes c = simp (c.four.ensures, c.in-UserBytes.is)
 
 pub returns-in-FBTimer : goal.returns-in-FBTimer
 unfolding digital_bytes
-returns-in-FBTimer c = simp (c.timer-in-FBTimer.ensures, c.enum_told-in-FBTimer-1.given.1)
+returns-in-FBTimer c = simp (c.timer-in-FBTimer.ensures, c.in-FBTimer.is)
 
 pub returns-in-FBPreset : goal.returns-in-FBPreset
 unfolding digital_bytes
-returns-in-FBPreset c = simp (c.timer-in-FBPreset.ensures, c.enum_told-in-FBPreset-1.given.1)
+returns-in-FBPreset c = simp (c.timer-in-FBPreset.ensures, c.in-FBPreset.is)
 
 pub returns-in-OutPreset : goal.returns-in-OutPreset
 unfolding digital_bytes
-returns-in-OutPreset c = simp (c.timer-in-OutPreset.ensures, c.enum_told-in-OutPreset-1.given.1)
+returns-in-OutPreset c = simp (c.timer-in-OutPreset.ensures, c.in-OutPreset.is)
 
 pub returns-in-ChConfig : goal.returns-in-ChConfig
 unfolding digital_bytes
-returns-in-ChConfig c = simp (c.config.ensures, c.enum_told-in-ChConfig-1.given.1)
+returns-in-ChConfig c = simp (c.config.ensures, c.in-ChConfig.is)
 
 pub returns-in-MinCurrent : goal.returns-in-MinCurrent
 unfolding digital_bytes
-returns-in-MinCurrent c = simp (c.real-in-MinCurrent.ensures, c.enum_told-in-MinCurrent-1.given.1)
+returns-in-MinCurrent c = simp (c.real-in-MinCurrent.ensures, c.in-MinCurrent.is)
 
 pub returns-in-MaxCurrent : goal.returns-in-MaxCurrent
 unfolding digital_bytes
-returns-in-MaxCurrent c = simp (c.real-in-MaxCurrent.ensures, c.enum_told-in-MaxCurrent-1.given.1)
+returns-in-MaxCurrent c = simp (c.real-in-MaxCurrent.ensures, c.in-MaxCurrent.is)
 
 pub returns-in-UserReals : goal.returns-in-UserReals
 unfolding digital_bytes
-returns-in-UserReals c = simp (c.eight.ensures, c.enum_told-in-UserReals-1.given.1)
+returns-in-UserReals c = simp (c.eight.ensures, c.in-UserReals.is)
 
 pub returns-in-Maintenance : goal.returns-in-Maintenance
 unfolding digital_bytes
-returns-in-Maintenance c = simp (c.four-in-Maintenance.ensures, c.enum_told-in-Maintenance-1.given.1)
+returns-in-Maintenance c = simp (c.four-in-Maintenance.ensures, c.in-Maintenance.is)
 
 pub returns-in-ChError : goal.returns-in-ChError
 unfolding digital_bytes
-returns-in-ChError c = simp (c.four-in-ChError.ensures, c.ch_error.ensures, c.enum_told-in-ChError-1.given.1)
+returns-in-ChError c = simp (c.four-in-ChError.ensures, c.ch_error.ensures, c.in-ChError.is)

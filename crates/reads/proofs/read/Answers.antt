@@ -20,55 +20,53 @@ fill-requires c =
     let t = c in
     let s = t.args in
     let p = placed t.place_of-p.result in
-    roomy s.swno p s.buf-1.now _ (sym t.read_reply-reply.ensures ∙ t.enum_told-1.given.1)
+    roomy s.swno p s.buf.now _ (sym t.read_reply-reply.ensures ∙ c.in-Done.is)
 
 pub returns-in-Done : goal.returns-in-Done
 returns-in-Done c =
     let t = c in
     let s = t.args in
-    let lent = s.buf-1.now in
+    let lent = s.buf.now in
     let place_is = t.place_of-p in
     let p = placed place_is.result in
     let e = place_is.ensures in
     let a = t.read_reply-reply in
-    let d = t.enum_told-1.given.1 in
+    let d = c.in-Done.is in
     let i = slot_of (s.swno / 16) in
-    let o = subst (OfChannel i) (sym e) (slot-of s.swno) in (
-      λ cs n w own.
+    let o = subst (OfChannel i) (sym e) (slot-of s.swno) in
+    record {
+      answer = λ cs n w own.
           let m = box_of s.s s.v s.d cs in
           let below : i < length cs = rw n (slot-fits (s.swno / 16)) in
           answered m s.swno lent p a.result e a.ensures _ _
           (c.service_left.ensures ∙ service-left p m ∙ ap (λ (r : Reply). (read_leaves r p m).service) (sym d))
           (c.channel_left.ensures ∙ ap (channel_left p) (sym own) ∙ channel-left p i m o below
-          ∙ ap (λ (r : Reply). get_or (read_leaves r p m).channels i nothing) (sym d)),
-      (
-        λ cs n w own.
+          ∙ ap (λ (r : Reply). get_or (read_leaves r p m).channels i nothing) (sym d));
+      buffer = λ cs n w own.
             let m = box_of s.s s.v s.d cs in
             buffered m s.swno lent p a.result e a.ensures _
-            (c.fill.ensures i o cs n w own ∙ ap (λ (r : Reply). read_fills r p m lent) (sym d)),
-        a.ensures ∙ ap (λ (q : Place). read_reply s.swno q lent) e,
-      ),
-    )
+            (c.fill.ensures i o cs n w own ∙ ap (λ (r : Reply). read_fills r p m lent) (sym d));
+      reply = a.ensures ∙ ap (λ (q : Place). read_reply s.swno q lent) e;
+    }
 
 pub returns-in-Refused : goal.returns-in-Refused
 returns-in-Refused c =
     let s = c.args in
-    let lent = s.buf-1.now in
+    let lent = s.buf.now in
     let place_is = c.place_of-p in
     let p = placed place_is.result in
     let e = place_is.ensures in
     let a = c.read_reply-reply in
-    let d = c.enum_told-in-Refused-1.given.1 in
-    let i = slot_of (s.swno / 16) in (
-      λ cs n w own.
+    let d = c.in-Refused.is in
+    let i = slot_of (s.swno / 16) in
+    record {
+      answer = λ cs n w own.
           let m = box_of s.s s.v s.d cs in
           answered m s.swno lent p a.result e a.ensures s.v s.ch
           (ap (λ (r : Reply). (read_leaves r p m).service) (sym d))
-          (sym own ∙ ap (λ (r : Reply). get_or (read_leaves r p m).channels i nothing) (sym d)),
-      (
-        λ cs n w own.
+          (sym own ∙ ap (λ (r : Reply). get_or (read_leaves r p m).channels i nothing) (sym d));
+      buffer = λ cs n w own.
             let m = box_of s.s s.v s.d cs in
-            buffered m s.swno lent p a.result e a.ensures lent (ap (λ (r : Reply). read_fills r p m lent) (sym d)),
-        a.ensures ∙ ap (λ (q : Place). read_reply s.swno q lent) e,
-      ),
-    )
+            buffered m s.swno lent p a.result e a.ensures lent (ap (λ (r : Reply). read_fills r p m lent) (sym d));
+      reply = a.ensures ∙ ap (λ (q : Place). read_reply s.swno q lent) e;
+    }

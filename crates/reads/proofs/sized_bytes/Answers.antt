@@ -8,11 +8,12 @@ use Rattle.reads.proofs.sized_bytes.Goals as goal
 
 pub returns : goal.returns
 returns c =
-    let s = c in
-    let ch = s.args.ch in
-    let g = s.well_formed.1.1.0.1.1.1.1.1.1.1.1.1.1 in
+    let a = c.args in
+    let ch = a.ch in
     let u : length ch.user ≡ 4 = search rules in
     let v : length ch.reals ≡ 8 = search rules in
-    let d = g.1.1.1.1.0 in
     let w : length ch.maintenance ≡ 4 = search rules in
-    (c.digital_bytes.ensures, held-size _ _ _ c.digital_bytes.ensures (digital-size s.args.r (levels_of s.args.levels) ch u v w))
+    record {
+      bytes = c.digital_bytes.ensures;
+      size = held-size _ _ _ c.digital_bytes.ensures (digital-size a.r (levels_of a.levels) ch u v w);
+    }

@@ -11,11 +11,8 @@ use Rattle.review.proofs.find_off.Goals as goal
 pub returns : goal.returns
 unfolding load_bits
 returns c =
-    let w = c in
-    let n = w in
-    let l = n.before.before in
-    let a = l.args in
+    let a = c.args in
     let ch = a.ch in
-    rw (c.weigh-2.ensures, c.leaks.ensures, w.weigh.ensures, n.not-input.ensures, n.before.functions.ensures, l.simulates_input-wired.ensures)
+    rw (c.weigh-2.ensures, c.leaks.ensures, c.weigh.ensures, c.not_input-driven.ensures, c.functions.ensures, c.simulates_input-wired.ensures)
     (off-bits (below_minimum ch.currents) (is_negative (fb_timer_of ch)) (enables_underload ch) (not (simulates_input ch)) (in_flag_of ch) (not_input (functions ch))
     (leaks a.s ch.currents) (has over_load ch.errors.act))

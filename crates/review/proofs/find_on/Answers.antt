@@ -11,18 +11,15 @@ use Rattle.review.proofs.find_on.Goals as goal
 pub returns : goal.returns
 unfolding load_bits
 returns c =
-    let w = c in
-    let n = w in
-    let l = n.before.before.before in
-    let a = l.args in
+    let a = c.args in
     let ch = a.ch in
     rw (
       c.weigh-2.ensures,
-      w.weigh.ensures,
-      w.enables_underload.ensures,
-      n.negative.ensures,
-      n.before.below-minimum.ensures,
-      l.simulates_input-wired.ensures,
+      c.weigh.ensures,
+      c.enables_underload.ensures,
+      c.negative.ensures,
+      c.below_minimum.ensures,
+      c.simulates_input-wired.ensures,
     )
     (on-bits (below_minimum ch.currents) (is_negative (fb_timer_of ch)) (enables_underload ch) (not (simulates_input ch)) (in_flag_of ch) (not_input (functions ch))
     (leaks a.s ch.currents) (has over_load ch.errors.act))

@@ -3,7 +3,7 @@ use mathlib.Core.Path.{◌≡◌, refl, ap, sym, ◌∙◌}
 use mathlib.Core.Bool.{Bool, true, false}
 use mathlib.Core.List.{List, [], ◌∷◌}
 use Prim.Native.Nat.{ℕ, zero, suc, ◌+◌, ◌*◌, ◌/◌, ◌%◌, ◌≤◌, ◌<◌, ◌^◌}
-use native.Mathlib.Nat.{div-eq_of_lt, pow-le-pow_right, zero-lt-suc}
+use native.Mathlib.Nat.{div-eq_of_lt, not-suc-le-zero, pow-le-pow_right, zero-lt-suc}
 use native.Mathlib.Omega.{arith}
 use lib.Dec.{eqb}
 use lib.ListN.{length, get_or}
@@ -31,6 +31,7 @@ levels-shown bs l = ap (λ (n : ℕ). lowest n (word_of bs)) (sym l) ∙ shown b
 
 -- bit k of a word is the level at place k
 lowest-at : (k n w : ℕ) → k < n → get_or (lowest n w) k false ≡ bit k w
+lowest-at k zero w l = absurd (not-suc-le-zero l)
 lowest-at zero (suc n) w l = refl
 lowest-at (suc k) (suc n) w l =
     let e : 1 + k ≡ suc k = omega arith in

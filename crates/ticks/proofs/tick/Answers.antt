@@ -1,5 +1,6 @@
 use mathlib.Core.Path.{◌≡◌}
-use lib.ListN.{length, length-map}
+use lib.ListN.{length}
+use borrow.Author.Rules.{rules}
 use Rattle.ticks.proofs.Whole.{whole}
 use Rattle.ticks.proofs.tick.Goals as goal
 
@@ -7,7 +8,7 @@ pub returns : goal.returns
 returns c =
     let start = c in
     let m = start.args.m in
-    let n : length m.channels ≡ 16 = rw length-map at start.well-formed.0.1.1.1.1.0.1.0.1 in
+    let n : length m.channels ≡ 16 = search rules in
     simp (
       c.tick_data.ensures,
       c.tick_channels.ensures,

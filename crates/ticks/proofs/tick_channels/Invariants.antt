@@ -1,5 +1,5 @@
 use mathlib.Core.Path.{◌≡◌}
-use Prim.Native.Nat.{ℕ, ◌-◌, ◌≤◌}
+use Prim.Native.Nat.{ℕ, ◌≤◌}
 use Rattle.model.specs.declared.Channel.{Channel}
 use Rattle.model.proofs.Laws.Filled.{filled, from}
 use Rattle.model.specs.Tick.{saved}

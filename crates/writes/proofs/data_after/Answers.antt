@@ -4,7 +4,7 @@ use Rattle.writes.proofs.Laws.Begun.{data-by}
 use Rattle.writes.proofs.data_after.Goals as goal
 
 pub data_written-requires : goal.data_written-requires
-data_written-requires c = done _ _ _ _ _ _ c.write_reply-reply.ensures c.enum_told-1.given.1
+data_written-requires c = done _ _ _ _ _ _ c.write_reply-reply.ensures c.in-Done.is
 
 pub returns-in-Done : goal.returns-in-Done
 returns-in-Done c =
@@ -12,11 +12,11 @@ returns-in-Done c =
     let w = t.write_reply-reply in
     let p = t.place_of-p in
     let a = t.args in
-    c.data_written.ensures ∙ sym (data-by a.s a.swno a.b.now _ w.result a.d p.ensures w.ensures ∙ rw t.enum_told-1.given.1)
+    c.data_written.ensures ∙ sym (data-by a.s a.swno a.b.now _ w.result a.d p.ensures w.ensures ∙ rw c.in-Done.is)
 
 pub returns-in-Refused : goal.returns-in-Refused
 returns-in-Refused c =
     let w = c.write_reply-reply in
     let p = c.place_of-p in
     let a = c.args in
-    sym (data-by a.s a.swno a.b.now _ w.result a.d p.ensures w.ensures ∙ rw c.enum_told-in-Refused-1.given.1)
+    sym (data-by a.s a.swno a.b.now _ w.result a.d p.ensures w.ensures ∙ rw c.in-Refused.is)

@@ -23,7 +23,7 @@ loop-k-preserved c =
     let k = l.k in
     let xs = s.args.channels in
     let g : ℕ → Channel → Channel = each_written (placed s.args.p) s.args.word in
-    let n : length xs ≡ 16 = search (rules, s.well_formed.1.0) in
+    let n : length xs ≡ 16 = search rules in
     let h : k < length xs = omega arith in
     (omega arith, rw (c.each-after.ensures, l.invariant.1, add-one) (in_place g (below k) (below (suc k)) k xs _ h (up k)))
 

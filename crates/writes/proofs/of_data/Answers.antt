@@ -1,4 +1,4 @@
 use Rattle.writes.proofs.of_data.Goals as goal
 
 pub returns-in-Service : goal.returns-in-Service
-returns-in-Service c = simp (c.count_of.ensures, c.p-1.given.1)
+returns-in-Service c = simp (c.count_of.ensures, c.in-Service.is)

@@ -1,4 +1,4 @@
 use Rattle.writes.proofs.service_after.Goals as goal
 
 pub returns-in-Service : goal.returns-in-Service
-returns-in-Service c = simp (c.write_errors.ensures, c.p-1.given.1)
+returns-in-Service c = simp (c.write_errors.ensures, c.in-Service.is)

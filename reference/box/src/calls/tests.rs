@@ -29,7 +29,7 @@ fn busy() -> Bench {
     bench.write(0x0D, &[1]);
     bench.write(0x15, &[1, 2, 3, 4]);
     bench.write_word(0x130, reals::ONE);
-    bench.write_word(0x131, 0x4000_0000);
+    bench.write_word(0x131, reals::TWO);
     bench.write(0x13C, &[1; 80]);
     bench.write(0x13D, &[2; 80]);
     bench.ticks(5);

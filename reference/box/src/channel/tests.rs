@@ -99,7 +99,7 @@ fn a_bit_that_is_not_taken_leaves_the_flag() {
 #[test]
 fn a_current_above_two_trips_an_input_too() {
     let mut input = channel(0, 0, 0, 0);
-    input.set_current(0x4000_0001);
+    input.set_current(reals::TWO + 1);
     assert_eq!((input.act, input.fb_timer), (error::OVERLOAD, 0));
 }
 
@@ -147,13 +147,13 @@ fn a_current_above_two_trips() {
     shot.write_flag_reg(flag::OUT | flag::CONTROL);
     shot.fb_timer = -1;
     shot.fb_status = false;
-    shot.set_current(0x4000_0000);
+    shot.set_current(reals::TWO);
     assert!(shot.out_flag && shot.control && shot.act == 0);
-    shot.set_current(0x4000_0001);
+    shot.set_current(reals::TWO + 1);
     assert!(!shot.out_flag && !shot.control);
     assert_eq!((shot.act, shot.his), (error::OVERLOAD, error::OVERLOAD));
     assert_eq!((shot.fb_timer, shot.fb_status), (512, true));
-    assert_eq!(shot.out_current, 0x4000_0001);
+    assert_eq!(shot.out_current, reals::TWO + 1);
 }
 
 #[test]

@@ -2,6 +2,7 @@
 
 use super::*;
 use crate::bench::Bench;
+use crate::tick::LAST_OF_SAVE;
 use crate::ChannelBox;
 
 const REAL_A: u16 = 0x130;
@@ -25,7 +26,7 @@ fn reset(bench: &mut Bench) {
 
 /// Brings the box to a tick before the save, then ticks.
 fn go_through_save(bench: &mut Bench) {
-    bench.device.save_count = 1_151_999;
+    bench.device.save_count = LAST_OF_SAVE;
     bench.ticks(1);
     assert_eq!(bench.device.save_count, 0);
 }
@@ -77,7 +78,7 @@ fn the_ten_hour_save_keeps_real_a_alone() {
         bench.write_word(REAL_A, 1);
         bench.write_word(REAL_B, 2);
         bench.write(WRITE_ENABLE, &[enable]);
-        bench.device.save_count = 1_151_998;
+        bench.device.save_count = LAST_OF_SAVE - 1;
         bench.ticks(1);
         assert_eq!(bench.device.data.kept, KeptData::default());
         bench.ticks(1);

@@ -14,7 +14,7 @@ fn window(start: u16, end: u16) -> Window {
 /// The minutes of the week at which a window is open.
 fn open_minutes(start: u16, end: u16) -> Vec<u16> {
     let open = |minute: &u16| window(start, end).is_open(*minute);
-    (0..=10_079).filter(open).collect()
+    (0..=LAST_MINUTE).filter(open).collect()
 }
 
 /// "start included and end not".

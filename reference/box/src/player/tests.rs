@@ -194,7 +194,8 @@ fn long_numbers_with_leading_zeros_stand() {
 
 #[test]
 fn a_line_may_have_16384_bytes() {
-    let longest = format!("tick{}", " ".repeat(16_380));
+    assert_eq!(LONGEST_LINE, 16_384);
+    let longest = format!("tick{}", " ".repeat(LONGEST_LINE - 4));
     assert_eq!(played(&longest), ["tick 0"]);
     let longer = format!("{longest} \n#{}\ntick", "x".repeat(100_000));
     let expected = ["error 1: line too long", "error 2: line too long", "tick 0"];

@@ -13,11 +13,11 @@ fn samples() -> Vec<Real> {
     let ends = [
         ZERO,
         SMALLEST,
-        0x3DCC_CCCD,
+        ONE_TENTH,
         ONE,
-        0x4000_0000,
-        0x4B00_0000,
-        0x4E00_0000,
+        TWO,
+        TIMER_END,
+        OPERATING_END,
         INFINITY,
         NAN,
         LARGEST,
@@ -56,7 +56,7 @@ fn a_nan_compares_false_and_reads_as_one_pattern() {
 #[test]
 fn timers_allow_their_range_only() {
     for real in [
-        0xCB00_0000,
+        MINUS_TIMER_END,
         0xCAFF_FFFF,
         0x4AFF_FFFF,
         MINUS_ZERO,
@@ -64,7 +64,7 @@ fn timers_allow_their_range_only() {
     ] {
         assert!(is_timer(real), "{real:08x}");
     }
-    for real in [0x4B00_0000, 0xCB00_0001, INFINITY, MINUS_INFINITY, NAN] {
+    for real in [TIMER_END, 0xCB00_0001, INFINITY, MINUS_INFINITY, NAN] {
         assert!(!is_timer(real), "{real:08x}");
     }
 }
@@ -74,26 +74,19 @@ fn presets_and_operating_time_start_at_zero() {
     for real in [ZERO, MINUS_ZERO, SMALLEST, 0x4AFF_FFFF] {
         assert!(is_preset(real) && is_operating(real), "{real:08x}");
     }
-    for real in [MINUS_SMALLEST, 0xBB80_0000, INFINITY, NAN, 0x4E00_0000] {
+    for real in [MINUS_SMALLEST, 0xBB80_0000, INFINITY, NAN, OPERATING_END] {
         assert!(!is_preset(real) && !is_operating(real), "{real:08x}");
     }
-    assert!(!is_preset(0x4B00_0000) && is_operating(0x4B00_0000));
+    assert!(!is_preset(TIMER_END) && is_operating(TIMER_END));
     assert!(is_operating(0x4DFF_FFFF));
 }
 
 #[test]
 fn limits_allow_zero_to_one() {
-    for real in [
-        ZERO,
-        MINUS_ZERO,
-        SMALLEST,
-        0x3DCC_CCCD,
-        0x3F7F_FFFF,
-        0x3F80_0000,
-    ] {
+    for real in [ZERO, MINUS_ZERO, SMALLEST, ONE_TENTH, 0x3F7F_FFFF, ONE] {
         assert!(is_limit(real), "{real:08x}");
     }
-    for real in [0x3F80_0001, MINUS_SMALLEST, INFINITY, NAN, 0xBF80_0000] {
+    for real in [ONE + 1, MINUS_SMALLEST, INFINITY, NAN, SIGN | ONE] {
         assert!(!is_limit(real), "{real:08x}");
     }
 }
@@ -116,7 +109,7 @@ fn ties_go_to_the_even_last_bit() {
     assert_eq!(from_operating_count(0x0100_0001), 0x4A00_0000);
     assert_eq!(from_operating_count(0x0100_0002), 0x4A00_0001);
     assert_eq!(from_operating_count(0x0100_0003), 0x4A00_0002);
-    assert_eq!(from_operating_count(u32::MAX), 0x4E00_0000);
-    assert_eq!(from_timer_count(i32::MAX), 0x4B00_0000);
-    assert_eq!(from_timer_count(i32::MIN), 0xCB00_0000);
+    assert_eq!(from_operating_count(u32::MAX), OPERATING_END);
+    assert_eq!(from_timer_count(i32::MAX), TIMER_END);
+    assert_eq!(from_timer_count(i32::MIN), MINUS_TIMER_END);
 }

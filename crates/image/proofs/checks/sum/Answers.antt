@@ -1,5 +1,5 @@
 use mathlib.Core.Path.{◌≡◌, ap, ◌∙◌}
-use Prim.Native.Nat.{ℕ, ◌-◌}
+use Prim.Native.Nat.{ℕ}
 use native.Mathlib.Omega.{arith}
 use lib.ListN.{length, take}
 use lib.Seq.{take-length}
@@ -8,16 +8,16 @@ use Rattle.image.proofs.Laws.Entries.{total-more}
 use Rattle.image.proofs.checks.sum.Goals as goal
 
 pub overflow_cast-n : goal.overflow_cast-n
-overflow_cast-n c = omega (arith, c.shared_slice_known-1.given c.loop-i.i)
+overflow_cast-n c = omega (arith, c.type_inv.s c.loop-i.i)
 
 pub overflow_add-n : goal.overflow_add-n
-overflow_add-n c = omega (arith, c.shared_slice_known-1.given c.loop-i.i)
+overflow_add-n c = omega (arith, c.type_inv.s c.loop-i.i)
 
 pub loop-i-preserved : goal.loop-i-preserved
 loop-i-preserved c =
     let l = c.loop-i in
     let t = total-more c.args.s.now l.i (omega arith) in
-    omega (arith, t, c.shared_slice_known-1.given l.i)
+    omega (arith, t, c.type_inv.s l.i)
 
 pub returns : goal.returns
 returns c =

@@ -6,10 +6,8 @@ use Rattle.image.proofs.encode.put_entry.Goals as goal
 
 pub returns : goal.returns
 returns c =
-    let early = c in
-    let s = early.before.before.before in
-    let buf = s.args.buf.now in
-    let at = s.args.at in
-    let e = entry_of s.args.ch in
-    let all = pasted-on buf at (first_five e) (last_five e) early.put-first-five.ensures c.put_last_five.ensures s.requires in
+    let buf = c.args.buf.now in
+    let at = c.args.at in
+    let e = entry_of c.args.ch in
+    let all = pasted-on buf at (first_five e) (last_five e) c.put_first_five.ensures c.put_last_five.ensures c.requires in
     pasted-as buf at (halves e) all

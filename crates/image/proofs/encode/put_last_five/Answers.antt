@@ -6,6 +6,7 @@ use native.Mathlib.Omega.{arith}
 use lib.ListN.{length, length-append}
 use Rattle.buffers.proofs.Laws.Paste.{pasted-next, pasted-as}
 use Rattle.image.proofs.Laws.Halves.{last-five}
+use borrow.Author.Rules.{rules}
 use mir.Syntax.{w32}
 use mir.ValLaws.{to_z-of_z}
 use Rattle.integers.specs.Bytes.{signed_bytes}
@@ -14,25 +15,21 @@ use Rattle.image.proofs.encode.put_last_five.Goals as goal
 
 pub returns : goal.returns
 returns c =
-    let early = c in
-    let start = early.before.before.before.before.before in
-    let s = start.before.before.before.before.before.before in
-    let buf = s.args.buf.now in
-    let at = s.args.at in
-    let ch = s.args.ch in
-    let counter = start.bytes-of-i32 in
-    let operating = start.before.before.bytes-of-u32 in
+    let buf = c.args.buf.now in
+    let at = c.args.at in
+    let ch = c.args.ch in
+    let counter = c.bytes_of_i32-counter in
+    let operating = c.bytes_of_u32-counts in
     let bc = ch.maintenance ++ ch.kept.user in
     let de = counter.result ++ operating.result in
-    let first = early.put-long.ensures in
+    let first = c.put_long.ensures in
     let second = c.put_two.ensures in
     let third = c.put_two-2.ensures in
     let three : length (ch.reals ++ bc) ≡ 16 = length-append ch.reals bc ∙ omega (arith, first.1, second.1) in
     let five : length ((ch.reals ++ bc) ++ de) ≡ 24 = length-append (ch.reals ++ bc) de ∙ omega (arith, three, third.1) in
-    let two = pasted-next buf (at + 20) ch.reals (at + 28) bc first.0 second.0 (omega (arith, first.1)) (omega (arith, second.1, s.requires)) in
-    let all = pasted-next buf (at + 20) (ch.reals ++ bc) (at + 36) de two third.0 (omega (arith, three)) (omega (arith, third.1, s.requires)) in
-    let fits = start.before.struct_told.given.1.0.1 in
+    let two = pasted-next buf (at + 20) ch.reals (at + 28) bc first.0 second.0 (omega (arith, first.1)) (omega (arith, second.1, c.requires)) in
+    let all = pasted-next buf (at + 20) (ch.reals ++ bc) (at + 36) de two third.0 (omega (arith, three)) (omega (arith, third.1, c.requires)) in
     let signed : counter.result ≡ signed_bytes 4 ch.kept.counter =
-    counter.ensures ∙ ap (signed_bytes 4) (to_z-of_z w32 ch.kept.counter (record { sfits = fits })) in
+    counter.ensures ∙ ap (signed_bytes 4) (to_z-of_z w32 ch.kept.counter (search rules)) in
     let whole : (ch.reals ++ bc) ++ de ≡ last_five (entry_of ch) = rw (← last-five (entry_of ch), signed, operating.ensures) (simp append_assoc) in
     pasted-as buf (at + 20) whole (all, five)

@@ -15,7 +15,6 @@ sum-n-requires c = omega (arith, length-take-le (sum_place sections) c.args.buf.
 
 pub returns : goal.returns
 returns c =
-    let told = c in
-    let buf = told.before.before.before.before.args.buf.now in
-    let sum = ap (λ (n : ℕ). bytes_of 2 (n % 65536)) told.before.sum.ensures in
-    c.put.ensures ∙ ap (pasted buf (sum_place sections)) (told.bytes-of-u16.ensures ∙ sum)
+    let buf = c.args.buf.now in
+    let sum = ap (λ (n : ℕ). bytes_of 2 (n % 65536)) c.sum-n.ensures in
+    c.put.ensures ∙ ap (pasted buf (sum_place sections)) (c.bytes_of_u16-told.ensures ∙ sum)

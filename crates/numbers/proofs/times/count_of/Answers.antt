@@ -1,32 +1,28 @@
 use mathlib.Core.Path.{◌≡◌, sym, ap, ◌∙◌, subst}
 use mathlib.Core.Bool.{Bool, true, false}
 use Prim.Native.Nat.{ℕ, ◌^◌, ◌≤◌}
-use lib.Ieee.{binary32, lt, of_bits}
-use Rattle.numbers.specs.Reals.{signed, units_of, count_of}
+use lib.Ieee.{Float, binary32, lt, of_bits}
+use lib.Dec.{T}
+use Rattle.numbers.specs.Reals.{signed, units_of, count_of, under}
 use Rattle.numbers.proofs.Laws.Count.{sign-test, plus-fits, plus, minus-fits, minus-read}
 use Rattle.numbers.proofs.Laws.Inside.{units-up-to}
 use Rattle.numbers.proofs.times.count_of.Goals as goal
 
-small : (c : tie.After-units-of) → c.units_of-n.result ≤ 4294967296
-small c =
-    let s = c in
-    subst (λ (n : ℕ). n ≤ 4294967296) (sym c.units_of-n.ensures) (units-up-to (2 ^ s.args.unit) 4294967296 s.args.x s.requires.1)
-
 -- the sign and the magnitude make the count
-count : (c : tie.After-units-of) (b : Bool) → lt c.args.x (of_bits binary32 0) ≡ b → signed b c.units_of-n.result ≡ count_of
-    (2 ^ c.args.unit) c.args.x
-count c b e =
-    let per = 2 ^ c.args.unit in
-    ap (signed b) c.units_of-n.ensures ∙ ap (λ (s : Bool). signed s (units_of per c.args.x)) (sym e) ∙ sign-test per c.args.x
+count : (per n : ℕ) (x : Float) (b : Bool) → n ≡ units_of per x → lt x (of_bits binary32 0) ≡ b → signed b n ≡ count_of per x
+count per n x b h e = ap (signed b) h ∙ ap (λ (s : Bool). signed s (units_of per x)) (sym e) ∙ sign-test per x
+
+small : (per n : ℕ) (x : Float) → n ≡ units_of per x → T (under per 4294967296 x) → n ≤ 4294967296
+small per n x h u = subst (λ (n : ℕ). n ≤ 4294967296) (sym h) (units-up-to per 4294967296 x u)
 
 pub overflow_cast-n : goal.overflow_cast-n
-overflow_cast-n c = plus-fits c.units_of-n.result (small c)
+overflow_cast-n c = plus-fits c.units_of-n.result (small (2 ^ c.args.unit) c.units_of-n.result c.args.x c.units_of-n.ensures c.requires.1)
 
 pub overflow_sub-result : goal.overflow_sub-result
-overflow_sub-result c = minus-fits c.units_of-n.result (small c)
+overflow_sub-result c = minus-fits c.units_of-n.result (small (2 ^ c.args.unit) c.units_of-n.result c.args.x c.units_of-n.ensures c.requires.1)
 
 pub returns-then-x : goal.returns-then-x
-returns-then-x c = minus-read c.units_of-n.result (small c) ∙ count c true c.if-x.true
+returns-then-x c = minus-read c.units_of-n.result (small (2 ^ c.args.unit) c.units_of-n.result c.args.x c.units_of-n.ensures c.requires.1) ∙ count (2 ^ c.args.unit) c.units_of-n.result c.args.x true c.units_of-n.ensures c.if-x.true
 
 pub returns : goal.returns
-returns c = plus c.units_of-n.result (small c) ∙ count c false c.if-x.false
+returns c = plus c.units_of-n.result (small (2 ^ c.args.unit) c.units_of-n.result c.args.x c.units_of-n.ensures c.requires.1) ∙ count (2 ^ c.args.unit) c.units_of-n.result c.args.x false c.units_of-n.ensures c.if-x.false

@@ -12,27 +12,24 @@ use Rattle.numbers.specs.Written.{operating_allowed}
 use Rattle.numbers.proofs.Laws.Range.{operating-under, operating-count, operating-fits}
 use Rattle.numbers.proofs.times.operating_count.Goals as goal
 
-allowed : (c : tie.Start) → T (operating_allowed c.args.x)
-allowed c = subst T (sym c.requires) tt
-
--- what owning an `f32` tells: the format holds it
-held : (c : tie.Start) → T (fits binary32 c.args.x)
-held c = subst T (sym c.well_formed.0.1) tt
-
--- the count is not negative
-count : (c : tie.After-count-of) → to_z w64 (of_z w64 c.count_of.result) ≡ pos (units_of 8 c.args.x)
-count c = to_z-of_z w64 c.count_of.result (record { sfits = c.count_of.type_inv }) ∙ c.count_of.ensures ∙ operating-count c.args.x (allowed c)
-
 made : ℤ → OperatingCount
 made z = record { 0 = nat_abs z }
 
 pub count_of-requires : goal.count_of-requires
-count_of-requires c = (lit≤ tt, operating-under c.args.x (allowed c))
+count_of-requires c = (lit≤ tt, operating-under c.args.x (subst T (sym c.requires) tt))
 
 pub overflow_cast-result : goal.overflow_cast-result
-overflow_cast-result c = subst (λ (z : ℤ). T (non_neg z) × Fits w32 (nat_abs z)) (sym (count c))
-    (tt, record { fits = operating-fits c.args.x (allowed c) (held c) })
+overflow_cast-result c =
+    let allowed : T (operating_allowed c.args.x) = subst T (sym c.requires) tt in
+    let held : T (fits binary32 c.args.x) = subst T (sym c.well_formed.0.1) tt in
+    -- the count is not negative
+    let count : to_z w64 (of_z w64 c.count_of.result) ≡ pos (units_of 8 c.args.x) = to_z-of_z w64 c.count_of.result (record { sfits = c.count_of.type_inv }) ∙ c.count_of.ensures ∙ operating-count c.args.x allowed in
+    subst (λ (z : ℤ). T (non_neg z) × Fits w32 (nat_abs z)) (sym count)
+    (tt, record { fits = operating-fits c.args.x allowed held })
 
 pub returns : goal.returns
 unfolding made
-returns c = ap made (count c)
+returns c =
+    let allowed : T (operating_allowed c.args.x) = subst T (sym c.requires) tt in
+    let count : to_z w64 (of_z w64 c.count_of.result) ≡ pos (units_of 8 c.args.x) = to_z-of_z w64 c.count_of.result (record { sfits = c.count_of.type_inv }) ∙ c.count_of.ensures ∙ operating-count c.args.x allowed in
+    ap made count

@@ -3,4 +3,4 @@ use Rattle.numbers.proofs.times.operating_real.Goals as goal
 
 pub returns : goal.returns
 unfolding real_of
-returns c = c.Real-of.ensures
+returns c = c.real_of.ensures

@@ -8,20 +8,6 @@ use lib.Ieee.{binary32, nan_bits, of_bits}
 use Rattle.numbers.proofs.Laws.ToReal.{above_zero, moved-high, rounded-high, real-made, real-zero, zero_pattern, field_fits, pattern-fits, no-nan-made}
 use Rattle.numbers.proofs.times.real_of.Goals as goal
 
--- the digits are at most 2 ^ 24
-high : (c : tie.After-nearest-quotient) → c.nearest_quotient-digits.result ≤ 16777216
-high c =
-    let s = c in
-    subst (λ (q : ℕ). q ≤ 16777216) (sym c.nearest_quotient-digits.ensures)
-    (rounded-high s.args.n s.args.unit (above_zero c.if-n-eq0.false) s.ranges.n.fits s.requires)
-
-exponent : tie.After-nearest-quotient → ℕ
-exponent c = 157 - c.args.unit - count_leading_zeros 32 c.args.n
-
-exponent-le : (c : tie.After-nearest-quotient) → exponent c ≤ 157
-unfolding exponent
-exponent-le c = omega arith
-
 pub float_from_bits-result : goal.float_from_bits-result
 float_from_bits-result c = subst (λ (b : ℕ). T (not (nan_bits binary32 b))) (sym c.sign_bit-sign.ensures) (zero_pattern c.args.negative)
 
@@ -42,35 +28,58 @@ nearest_quotient-digits-requires c =
     (omega (arith, moved-high s.args.n s.args.unit (above_zero c.if-n-eq0.false) s.ranges.n.fits s.requires), lit< tt, lit< tt)
 
 pub overflow_cast-digits : goal.overflow_cast-digits
-overflow_cast-digits c = omega (arith, high c)
+overflow_cast-digits c =
+    let high : c.nearest_quotient-digits.result ≤ 16777216 =
+    subst (λ (q : ℕ). q ≤ 16777216) (sym c.nearest_quotient-digits.ensures)
+    (rounded-high c.args.n c.args.unit (above_zero c.if-n-eq0.false) c.ranges.n.fits c.requires)
+    in
+    omega (arith, high)
 
 pub overflow_sub-result-2 : goal.overflow_sub-result-2
 overflow_sub-result-2 c = omega (arith, leading_le 32 c.args.n)
 
 pub overflow_add-result : goal.overflow_add-result
-unfolding exponent
-overflow_add-result c = record {
-  fits = subst (λ (b : ℕ). b + exponent c * 8388608 < 4294967296) (sym c.sign_bit-sign.ensures)
-      (field_fits (exponent c) c.nearest_quotient-digits.result (exponent-le c) (high c) c.args.negative);
-}
+overflow_add-result c =
+    let exponent : ℕ = 157 - c.args.unit - count_leading_zeros 32 c.args.n in
+    let exponent-le : exponent ≤ 157 = omega arith in
+    let high : c.nearest_quotient-digits.result ≤ 16777216 =
+    subst (λ (q : ℕ). q ≤ 16777216) (sym c.nearest_quotient-digits.ensures)
+    (rounded-high c.args.n c.args.unit (above_zero c.if-n-eq0.false) c.ranges.n.fits c.requires)
+    in
+    record {
+      fits = subst (λ (b : ℕ). b + exponent * 8388608 < 4294967296) (sym c.sign_bit-sign.ensures)
+          (field_fits exponent c.nearest_quotient-digits.result exponent-le high c.args.negative);
+    }
 
 pub overflow_add-result-2 : goal.overflow_add-result-2
-unfolding exponent
-overflow_add-result-2 c = record {
-  fits = subst (λ (b : ℕ). b + exponent c * 8388608 + c.nearest_quotient-digits.result < 4294967296)
-      (sym c.sign_bit-sign.ensures) (pattern-fits (exponent c) c.nearest_quotient-digits.result (exponent-le c) (high c)
-      c.args.negative);
-}
+overflow_add-result-2 c =
+    let exponent : ℕ = 157 - c.args.unit - count_leading_zeros 32 c.args.n in
+    let exponent-le : exponent ≤ 157 = omega arith in
+    let high : c.nearest_quotient-digits.result ≤ 16777216 =
+    subst (λ (q : ℕ). q ≤ 16777216) (sym c.nearest_quotient-digits.ensures)
+    (rounded-high c.args.n c.args.unit (above_zero c.if-n-eq0.false) c.ranges.n.fits c.requires)
+    in
+    record {
+      fits = subst (λ (b : ℕ). b + exponent * 8388608 + c.nearest_quotient-digits.result < 4294967296)
+          (sym c.sign_bit-sign.ensures) (pattern-fits exponent c.nearest_quotient-digits.result exponent-le high
+          c.args.negative);
+    }
 
 pub float_from_bits-result-2 : goal.float_from_bits-result-2
-unfolding exponent
-float_from_bits-result-2 c = subst (λ (b : ℕ). T (not (nan_bits binary32 (b + exponent c * 8388608 + c.nearest_quotient-digits.result))))
-    (sym c.sign_bit-sign.ensures) (no-nan-made (exponent c) c.nearest_quotient-digits.result (exponent-le c) (high c)
+float_from_bits-result-2 c =
+    let exponent : ℕ = 157 - c.args.unit - count_leading_zeros 32 c.args.n in
+    let exponent-le : exponent ≤ 157 = omega arith in
+    let high : c.nearest_quotient-digits.result ≤ 16777216 =
+    subst (λ (q : ℕ). q ≤ 16777216) (sym c.nearest_quotient-digits.ensures)
+    (rounded-high c.args.n c.args.unit (above_zero c.if-n-eq0.false) c.ranges.n.fits c.requires)
+    in
+    subst (λ (b : ℕ). T (not (nan_bits binary32 (b + exponent * 8388608 + c.nearest_quotient-digits.result))))
+    (sym c.sign_bit-sign.ensures) (no-nan-made exponent c.nearest_quotient-digits.result exponent-le high
     c.args.negative)
 
 pub returns : goal.returns
-unfolding exponent
 returns c =
+    let exponent : ℕ = 157 - c.args.unit - count_leading_zeros 32 c.args.n in
     let s = c in
-    ap₂ (λ (b q : ℕ). of_bits binary32 (b + exponent c * 8388608 + q)) c.sign_bit-sign.ensures c.nearest_quotient-digits.ensures
+    ap₂ (λ (b q : ℕ). of_bits binary32 (b + exponent * 8388608 + q)) c.sign_bit-sign.ensures c.nearest_quotient-digits.ensures
     ∙ real-made s.args.n s.args.unit (above_zero c.if-n-eq0.false) s.ranges.n.fits s.requires s.args.negative

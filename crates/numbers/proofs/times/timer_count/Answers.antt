@@ -11,25 +11,21 @@ use Rattle.numbers.specs.Written.{timer_allowed}
 use Rattle.numbers.proofs.Laws.Range.{timer-under, timer-fits}
 use Rattle.numbers.proofs.times.timer_count.Goals as goal
 
-allowed : (c : tie.Start) → T (timer_allowed c.args.x)
-allowed c = subst T (sym c.requires) tt
-
--- what owning an `f32` tells: the format holds it
-held : (c : tie.Start) → T (fits binary32 c.args.x)
-held c = subst T (sym c.well_formed.0.1) tt
-
--- the count, and that it is one of 32 bits
-count : (c : tie.After-count-of) → to_z w64 (of_z w64 c.count_of.result) ≡ count_of 256 c.args.x
-count c = to_z-of_z w64 c.count_of.result (record { sfits = c.count_of.type_inv }) ∙ c.count_of.ensures
-
-fitting : (c : tie.Start) → SFits w32 (count_of 256 c.args.x)
-fitting c = timer-fits c.args.x (held c) (allowed c)
-
 pub count_of-requires : goal.count_of-requires
-count_of-requires c = (lit≤ tt, timer-under c.args.x (allowed c))
+count_of-requires c = (lit≤ tt, timer-under c.args.x (subst T (sym c.requires) tt))
 
 pub overflow_cast-result : goal.overflow_cast-result
-overflow_cast-result c = subst (SFits w32) (sym (count c)) (fitting c)
+overflow_cast-result c =
+    let allowed : T (timer_allowed c.args.x) = subst T (sym c.requires) tt in
+    let held : T (fits binary32 c.args.x) = subst T (sym c.well_formed.0.1) tt in
+    let count : to_z w64 (of_z w64 c.count_of.result) ≡ count_of 256 c.args.x = to_z-of_z w64 c.count_of.result (record { sfits = c.count_of.type_inv }) ∙ c.count_of.ensures in
+    let fitting : SFits w32 (count_of 256 c.args.x) = timer-fits c.args.x held allowed in
+    subst (SFits w32) (sym count) fitting
 
 pub returns : goal.returns
-returns c = ap timer (ap (λ (z : ℤ). to_z w32 (of_z w32 z)) (count c) ∙ to_z-of_z w32 (count_of 256 c.args.x) (fitting c))
+returns c =
+    let allowed : T (timer_allowed c.args.x) = subst T (sym c.requires) tt in
+    let held : T (fits binary32 c.args.x) = subst T (sym c.well_formed.0.1) tt in
+    let count : to_z w64 (of_z w64 c.count_of.result) ≡ count_of 256 c.args.x = to_z-of_z w64 c.count_of.result (record { sfits = c.count_of.type_inv }) ∙ c.count_of.ensures in
+    let fitting : SFits w32 (count_of 256 c.args.x) = timer-fits c.args.x held allowed in
+    ap timer (ap (λ (z : ℤ). to_z w32 (of_z w32 z)) count ∙ to_z-of_z w32 (count_of 256 c.args.x) fitting)

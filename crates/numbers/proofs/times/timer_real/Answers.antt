@@ -14,7 +14,7 @@ pub returns : goal.returns
 returns c =
     let t = c.args.t in
     let z = to_z w32 (of_z w32 t.0) in
-    c.Real-of.ensures
+    c.real_of.ensures
     ∙ ap (λ (n : ℕ). round binary32 (lt_z z (pos 0)) n 256) c.magnitude.ensures
     ∙ real-signed 256 z
     ∙ ap (real_of 256) (to_z-of_z w32 t.0 (record { sfits = c.struct_told-1.given.0.1 }))

@@ -5,28 +5,35 @@ use lib.Ieee.{binary32, fits}
 use Rattle.numbers.proofs.Laws.FromReal.{under-no-nan, field-le, units-zero, shift-pos, shift-lt, units-shifted}
 use Rattle.numbers.proofs.times.units_of.Goals as goal
 
--- what owning an `f32` tells: the format holds it
-held : (c : tie.Start) → T (fits binary32 c.args.x)
-held c = subst T (sym c.well_formed.0.1) tt
-
 pub float_to_bits-bits : goal.float_to_bits-bits
 float_to_bits-bits c = under-no-nan _ _ c.args.x c.requires.1
 
 pub returns-then-exponent-lt100 : goal.returns-then-exponent-lt100
-returns-then-exponent-lt100 c = let s = c in units-zero s.args.x s.args.unit (held s) s.requires.0 s.requires.1 c.if-exponent-lt100.true
+returns-then-exponent-lt100 c =
+    -- what owning an `f32` tells: the format holds it
+    let held : T (fits binary32 c.args.x) = subst T (sym c.well_formed.0.1) tt in
+    let s = c in
+    units-zero s.args.x s.args.unit held s.requires.0 s.requires.1 c.if-exponent-lt100.true
 
 pub overflow_sub-divisor-2 : goal.overflow_sub-divisor-2
-overflow_sub-divisor-2 c = let s = c in field-le s.args.x s.args.unit (held s) s.requires.0 s.requires.1
+overflow_sub-divisor-2 c =
+    let held : T (fits binary32 c.args.x) = subst T (sym c.well_formed.0.1) tt in
+    let s = c in
+    field-le s.args.x s.args.unit held s.requires.0 s.requires.1
 
 pub nearest_quotient-requires : goal.nearest_quotient-requires
 nearest_quotient-requires c =
+    let held : T (fits binary32 c.args.x) = subst T (sym c.well_formed.0.1) tt in
     let s = c in (
       omega arith,
-      shift-pos s.args.x s.args.unit (held s) s.requires.0 s.requires.1 c.if-exponent-lt100.false,
-      shift-lt s.args.x s.args.unit (held s)
+      shift-pos s.args.x s.args.unit held s.requires.0 s.requires.1 c.if-exponent-lt100.false,
+      shift-lt s.args.x s.args.unit held
           s.requires.0 s.requires.1 c.if-exponent-lt100.false,
     )
 
 pub returns : goal.returns
-returns c = let s = c in c.nearest_quotient.ensures ∙ units-shifted s.args.x s.args.unit (held s) s.requires.0 s.requires.1
+returns c =
+    let held : T (fits binary32 c.args.x) = subst T (sym c.well_formed.0.1) tt in
+    let s = c in
+    c.nearest_quotient.ensures ∙ units-shifted s.args.x s.args.unit held s.requires.0 s.requires.1
     c.if-exponent-lt100.false

@@ -1,7 +1,7 @@
 use Rattle.pd3120.proofs.lookups.bits.Goals as goal
 
 pub returns-in-Done : goal.returns-in-Done
-returns-in-Done c = simp (c.level_bits.ensures, c.enum_told-1.given.1)
+returns-in-Done c = simp (c.level_bits.ensures, c.in-Done.is)
 
 pub returns-in-Refused : goal.returns-in-Refused
-returns-in-Refused c = simp c.enum_told-in-Refused-1.given.1
+returns-in-Refused c = simp c.in-Refused.is

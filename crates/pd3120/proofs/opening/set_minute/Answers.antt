@@ -8,11 +8,11 @@ unfolding step
 returns-in-Done c =
     let a = c.args in
     let r = c.minute_reply-reply in
-    λ m p. set r.result (minute_reply a.minute) _ a.minute _ _ r.ensures c.enum_told-1.given.1 c.with_minute.ensures m p
+    λ m p. set r.result (minute_reply a.minute) _ a.minute _ _ r.ensures c.in-Done.is c.with_minute.ensures m p
 
 pub returns-in-Refused : goal.returns-in-Refused
 unfolding step
 returns-in-Refused c =
     let a = c.args in
     let r = c.minute_reply-reply in
-    λ m p. not_set r.result (minute_reply a.minute) _ a.minute _ r.ensures c.enum_told-in-Refused-1.given.1 m p
+    λ m p. not_set r.result (minute_reply a.minute) _ a.minute _ r.ensures c.in-Refused.is m p

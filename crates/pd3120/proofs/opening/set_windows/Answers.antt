@@ -12,7 +12,7 @@ returns-in-Done c =
     let r = c.windows_reply-reply in
     let ws = a.windows.now in
     λ m p.
-    done r.result (windows_reply a.channel ws) _ a.channel (with_timetable (timetable_of ws)) _ _ r.ensures c.enum_told-1.given.1
+    done r.result (windows_reply a.channel ws) _ a.channel (with_timetable (timetable_of ws)) _ _ r.ensures c.in-Done.is
     (has-channel a.channel ws) c.with_windows.ensures m p
 
 pub returns-in-Refused : goal.returns-in-Refused
@@ -20,4 +20,4 @@ unfolding step
 returns-in-Refused c =
     let a = c.args in
     let r = c.windows_reply-reply in
-    λ m p. refused r.result (windows_reply a.channel a.windows.now) _ a.channel _ _ r.ensures c.enum_told-in-Refused-1.given.1 m p
+    λ m p. refused r.result (windows_reply a.channel a.windows.now) _ a.channel _ _ r.ensures c.in-Refused.is m p

@@ -13,7 +13,7 @@ returns-in-Done c =
     let r = c.sample_reply-reply in
     let k = a.channel in
     λ m e p.
-    done r.result (sample_reply k a.amperes) _ k (take_sample m.shared a.level a.amperes) _ _ r.ensures c.enum_told-1.given.1
+    done r.result (sample_reply k a.amperes) _ k (take_sample m.shared a.level a.amperes) _ _ r.ensures c.in-Done.is
     (is-digital k a.amperes) (c.take_sample.ensures ∙ ap (λ (t : Shared). take_sample t a.level a.amperes a.ch) (sym e)) m p
 
 pub returns-in-Refused : goal.returns-in-Refused
@@ -21,4 +21,4 @@ unfolding step
 returns-in-Refused c =
     let a = c.args in
     let r = c.sample_reply-reply in
-    λ m e p. refused r.result (sample_reply a.channel a.amperes) _ a.channel _ _ r.ensures c.enum_told-in-Refused-1.given.1 m p
+    λ m e p. refused r.result (sample_reply a.channel a.amperes) _ a.channel _ _ r.ensures c.in-Refused.is m p

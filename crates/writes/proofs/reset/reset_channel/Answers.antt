@@ -1,4 +1,5 @@
 use lib.Ieee.{of_int, of_bits}
+use borrow.Author.Rules.{rules}
 use mir.Facts.{to_z-of_z}
 use mir.Syntax.{w32}
 use Rattle.model.specs.Restored.{restored}
@@ -11,5 +12,5 @@ returns c =
     simp (
       c.no_windows-next.ensures,
       c.no_errors-errors.ensures,
-      to_z-of_z {w = w32} {z = ch.kept.counter} (record { sfits = c.struct_told-1.given.1.0.1 }),
+      to_z-of_z {w = w32} {z = ch.kept.counter} (search rules),
     )

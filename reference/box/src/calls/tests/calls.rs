@@ -31,12 +31,12 @@ fn a_write_clears_act_bit_3_too() {
 fn samples_and_ticks_neither_clear_nor_preset() {
     let mut bench = with_watchdog(8);
     bench.ticks(1);
-    for amperes in [0, 0x4000_0001] {
+    for amperes in [0, reals::TWO + 1] {
         assert_eq!(bench.device.sample(1, true, amperes), 0);
         assert_eq!(bench.device.sample(17, true, amperes), 8);
     }
     assert_eq!(bench.device.sample(1, false, reals::NAN), 9);
-    bench.device.store(&mut [0; 886]);
+    bench.device.store(&mut [0; image::LENGTH]);
     bench.device.lookup(1, 0);
     assert_eq!((bench.device.act, bench.device.wd_timer), (RUN_OUT, 0));
 }
@@ -81,7 +81,7 @@ fn a_written_wd_timer_is_judged_and_lost() {
     bench.ticks(1);
     assert_eq!(bench.write_word(0x08, reals::ONE), 0);
     assert_eq!(bench.device.wd_timer, 512);
-    assert_eq!(bench.write_word(0x08, 0x4B00_0000), 7);
+    assert_eq!(bench.write_word(0x08, reals::TIMER_END), 7);
     assert_eq!(bench.write_word(0x08, 0xBF80_0000), 7);
 }
 

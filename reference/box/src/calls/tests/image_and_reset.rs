@@ -2,9 +2,9 @@
 
 use super::*;
 
-fn stored(device: &ChannelBox) -> [u8; 886] {
-    let mut buffer = [0; 886];
-    assert_eq!(device.store(&mut buffer), (0, 886));
+fn stored(device: &ChannelBox) -> [u8; image::LENGTH] {
+    let mut buffer = [0; image::LENGTH];
+    assert_eq!(device.store(&mut buffer), (0, image::LENGTH));
     buffer
 }
 
@@ -21,16 +21,16 @@ fn power_up_restores_and_presets() {
         ..Kept::default()
     };
     settings.data.real_a = reals::ONE;
-    settings.data.real_b = 0x4000_0000;
+    settings.data.real_b = reals::TWO;
     settings.data.tables[1].0[9].y = 3;
     let bench = Bench::with(settings);
     assert_eq!(bench.device.wd_timer, 99);
-    assert_eq!((bench.device.his, bench.device.act), (0x80, 0));
+    assert_eq!((bench.device.his, bench.device.act), (INTERNAL_RESET, 0));
     let channel = &bench.device.channels[6];
     assert_eq!((channel.counter, channel.operating), (-5, 6));
     assert_eq!(channel.user_bytes, [1, 2, 3, 4]);
     let data = &bench.device.data;
-    assert_eq!((data.real_a, data.real_b), (reals::ONE, 0x4000_0000));
+    assert_eq!((data.real_a, data.real_b), (reals::ONE, reals::TWO));
     assert_eq!((data.timer_a, data.timer_b), (0, 0));
     assert_eq!(bench.device.kept(), settings);
 }
@@ -43,7 +43,7 @@ fn a_refused_power_up_gives_the_box_of_zero_settings() {
     let mut bench = busy();
     assert_eq!(bench.device.power_up(&[]), 10);
     assert_eq!(bench.device, expected);
-    assert_eq!(bench.device.his, 0x80);
+    assert_eq!(bench.device.his, INTERNAL_RESET);
 }
 
 #[test]

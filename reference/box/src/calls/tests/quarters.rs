@@ -86,7 +86,7 @@ fn a_refused_write_of_operating_time_keeps_them() {
             assert_eq!(shown, KEPT, "{enable} {length}");
         }
         for time in [
-            0x4E00_0000,
+            reals::OPERATING_END,
             0x7F7F_FFFF,
             0x8000_0001,
             0xBE00_0000,
@@ -190,7 +190,7 @@ fn reads_keep_them() {
 #[test]
 fn samples_lookups_and_stores_keep_them() {
     let samples = |bench: &mut Bench| {
-        for amperes in [0, reals::ONE, 0x4000_0001, 0] {
+        for amperes in [0, reals::ONE, reals::TWO + 1, 0] {
             for on in [true, false, true, false] {
                 assert_eq!(bench.device.sample(1, on, amperes), 0);
             }
@@ -198,7 +198,7 @@ fn samples_lookups_and_stores_keep_them() {
         assert_eq!(bench.device.sample(1, true, reals::NAN), 9);
         assert_eq!(bench.device.sample(17, true, 0), 8);
         bench.device.lookup(1, 0);
-        assert_eq!(bench.device.store(&mut [0; 886]).0, 0);
+        assert_eq!(bench.device.store(&mut [0; image::LENGTH]).0, 0);
     };
     assert_eq!(shown_after(samples), KEPT);
 }
@@ -221,7 +221,7 @@ fn a_save_keeps_them() {
     let save = |bench: &mut Bench| {
         bench.device.sample(1, false, 0);
         bench.write(0x111, &[0, 0]);
-        bench.device.save_count = 1_151_999;
+        bench.device.save_count = crate::tick::LAST_OF_SAVE;
         bench.ticks(1);
         assert_eq!(bench.device.channels[0].kept.operating, COUNT);
     };
@@ -240,8 +240,8 @@ fn an_image_holds_no_quarters() {
     let stored = |quarters| {
         let mut bench = busy();
         bench.device.channels[1].quarters = quarters;
-        let mut image = [LENT; 886];
-        assert_eq!(bench.device.store(&mut image), (0, 886));
+        let mut image = [LENT; image::LENGTH];
+        assert_eq!(bench.device.store(&mut image), (0, image::LENGTH));
         image
     };
     for quarters in [1, 2, 3, 7, 255] {

@@ -3,14 +3,14 @@
 use super::*;
 
 /// Just above 2 A.
-const TRIPPING: Real = 0x4000_0001;
+const TRIPPING: Real = reals::TWO + 1;
 const MINUS_ZERO: Real = 0x8000_0000;
 const FINITE: [Real; 9] = [
     0,
     MINUS_ZERO,
     1,
     reals::ONE,
-    0x4000_0000,
+    reals::TWO,
     TRIPPING,
     0x7F7F_FFFF,
     0xC040_0000,
@@ -174,7 +174,7 @@ fn a_tripping_sample_counts_its_rise() {
         bench.read(0x10, 1),
         [flag::IN | flag::FB_STATUS | flag::ERROR]
     );
-    assert_eq!(bench.read_word(0x16), 0x4000_0000);
+    assert_eq!(bench.read_word(0x16), reals::TWO);
     assert_eq!(bench.read(0x1F, 4), [0x40, 0, 0x40, 0]);
 }
 

@@ -126,7 +126,7 @@ mod tests {
     #[test]
     fn currents_trip_and_are_refused_as_they_say() {
         let mut random = Random::new(3);
-        let trips = |amperes| reals::greater(amperes, 0x4000_0000);
+        let trips = |amperes| reals::greater(amperes, reals::TWO);
         for _ in 0..1000 {
             assert!(trips(tripping_current(&mut random)));
             assert!(!trips(quiet_current(&mut random)));

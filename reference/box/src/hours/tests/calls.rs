@@ -2,6 +2,7 @@
 
 use super::*;
 use crate::calls::ChannelBox;
+use crate::image;
 
 const NINE: [(u16, u16); 9] = [(1, 2); 9];
 const NINE_LATE: [(u16, u16); 9] = [(10_080, 2); 9];
@@ -120,7 +121,7 @@ fn reset_and_power_up_leave_no_minute_and_no_windows() {
         bench
     };
     let mut bench = closed();
-    let mut image = [0; 886];
+    let mut image = [0; image::LENGTH];
     assert_eq!(bench.device.store(&mut image).0, 0);
     let mut same = ChannelBox::default();
     assert_eq!(same.power_up(&image), 0);
@@ -174,8 +175,8 @@ fn a_written_config_leaves_the_windows() {
 #[test]
 fn no_image_has_a_minute_or_windows() {
     let stored = |bench: &Bench| {
-        let mut image = [0; 886];
-        assert_eq!(bench.device.store(&mut image), (0, 886));
+        let mut image = [0; image::LENGTH];
+        assert_eq!(bench.device.store(&mut image), (0, image::LENGTH));
         image
     };
     let mut bench = with_hours(&[], 600);

@@ -112,13 +112,13 @@ fn what_would_become_0_from_below_is_out_of_range() {
 /// whole counts.
 #[test]
 fn the_ends_of_the_ranges_are_whole_counts() {
-    let [timer, operating] = [0x4AFF_FFFF, 0x4DFF_FFFF];
+    let [timer, operating] = [TIMER_END - 1, OPERATING_END - 1];
     assert!(is_preset(timer) && is_timer(timer) && is_operating(operating));
     assert_eq!(to_timer_count(timer), 2_147_483_520);
     assert_eq!(to_operating_count(operating), 4_294_967_040);
     assert_eq!(to_timer_count(SIGN | timer), -2_147_483_520);
-    assert_eq!(to_timer_count(0xCB00_0000), i32::MIN);
-    assert!(!is_timer(0x4B00_0000) && !is_operating(0x4E00_0000));
+    assert_eq!(to_timer_count(MINUS_TIMER_END), i32::MIN);
+    assert!(!is_timer(TIMER_END) && !is_operating(OPERATING_END));
 }
 
 /// Another way to the same counts: f64 holds a Real's counts exactly, and the

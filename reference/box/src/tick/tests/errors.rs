@@ -44,6 +44,14 @@ fn short_circuits_and_disconnection() {
     outside.tick(false, false, 0);
     assert_eq!(outside.act, 0);
 
+    let mut inside = with_channel([0; 4]);
+    inside.out_current = reals::ONE_TENTH;
+    inside.tick(false, false, 0);
+    assert_eq!(inside.act, 0);
+    inside.out_current = reals::ONE_TENTH + 1;
+    inside.tick(false, false, 0);
+    assert_eq!(inside.act, error::INTERNAL_SHORT_CIRCUIT);
+
     let mut broken = with_channel([0, 0x10, 0, 0]);
     broken.out_flag = true;
     broken.tick(false, false, 0);

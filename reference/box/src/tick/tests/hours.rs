@@ -181,7 +181,7 @@ fn a_current_as_it_closes() {
     bench.ticks(1);
     let channel = bench.device.channels[0];
     assert_eq!(channel.act, error::INTERNAL_SHORT_CIRCUIT);
-    bench.device.channels[0].out_current = 0x4000_0001;
+    bench.device.channels[0].out_current = reals::TWO + 1;
     bench.device.channels[0].out_flag = true;
     bench.ticks(1);
     let channel = bench.device.channels[0];

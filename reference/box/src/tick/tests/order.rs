@@ -27,7 +27,7 @@ fn look_both_ways(bench: &Bench) -> [Bench; 2] {
     let model: fn(&mut ChannelBox) = ChannelBox::tick;
     [model, |device| device.tick_in_order(Order::NearEndFirst)].map(|tick| {
         let mut device = bench.device.clone();
-        while device.free_run_timer < 32 {
+        while device.free_run_timer < LOOK {
             tick(&mut device);
         }
         Bench { device }
@@ -96,13 +96,10 @@ fn the_save_keeps_the_counts_of_all_sixteen() {
         channel.counter = -count;
         channel.operating = count.unsigned_abs();
     }
-    bench.device.save_count = 1_151_999;
+    bench.device.save_count = LAST_OF_SAVE;
     bench.ticks(1);
     let kept = bench.device.channels.map(|channel| channel.kept);
     for (kept, count) in kept.iter().zip(1_i32..) {
-        assert_eq!(
-            (kept.counter, kept.operating),
-            (-count, count.unsigned_abs())
-        );
+        assert_eq!((kept.counter, kept.operating), (-count, count.unsigned_abs()));
     }
 }

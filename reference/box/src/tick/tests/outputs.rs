@@ -92,7 +92,7 @@ fn a_current_above_two_trips_at_every_tick() {
     let mut channel = with_channel([0, 0x10, 0, 0]);
     channel.kept.max_current = reals::ONE;
     channel.kept.fb_preset = 800;
-    channel.out_current = 0x4000_0001;
+    channel.out_current = reals::TWO + 1;
     for _ in 0..2 {
         channel.out_flag = true;
         channel.fb_timer = 80;

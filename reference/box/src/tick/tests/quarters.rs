@@ -132,7 +132,7 @@ fn quarters_do_not_show_in_operating_time() {
 fn near_save(before: u32, quarters: u8) -> Bench {
     let mut bench = Bench::watchdog_off();
     bench.device.sample(1, true, 0);
-    bench.device.save_count = 1_151_999 - before;
+    bench.device.save_count = LAST_OF_SAVE - before;
     bench.device.channels[0].quarters = quarters;
     bench
 }

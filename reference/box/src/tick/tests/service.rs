@@ -17,13 +17,17 @@ fn the_watchdog_runs_out_by_level() {
     bench.write(0x10, &[flag::OUT | flag::CONTROL]);
     bench.ticks(1);
     assert!(bench.device.channels[0].control);
+    assert_eq!(bench.device.act & RUN_OUT, 0);
     assert_eq!(bench.device.act, 0);
     bench.ticks(1);
     assert!(!bench.device.channels[0].control && !bench.device.channels[0].out_flag);
+    assert_eq!(bench.device.act & RUN_OUT, RUN_OUT);
+    assert_eq!(bench.device.his & RUN_OUT, RUN_OUT);
     assert_eq!(bench.device.act, 1 << 3);
     assert_eq!(bench.device.his, 1 << 7 | 1 << 3);
     bench.device.his = 0;
     bench.ticks(1);
+    assert_eq!(bench.device.his & RUN_OUT, RUN_OUT);
     assert_eq!(bench.device.his, 1 << 3);
 }
 
@@ -56,7 +60,7 @@ fn counts_are_kept_every_1152000th_tick() {
     let mut bench = Bench::watchdog_off();
     bench.device.sample(16, true, 0);
     bench.write(0x15, &[1, 2, 3, 4]);
-    bench.ticks(1_151_999);
+    bench.ticks(LAST_OF_SAVE);
     assert_eq!(bench.device.channels[15].kept, Kept::default());
     bench.ticks(1);
     let kept = bench.device.channels[15].kept;
@@ -67,7 +71,7 @@ fn counts_are_kept_every_1152000th_tick() {
 
 #[test]
 fn a_higher_save_count_acts_as_the_last() {
-    for count in [1_151_999, 1_152_000, u32::MAX] {
+    for count in [LAST_OF_SAVE, LAST_OF_SAVE + 1, u32::MAX] {
         let mut bench = Bench::watchdog_off();
         bench.device.sample(1, true, 0);
         bench.device.save_count = count;

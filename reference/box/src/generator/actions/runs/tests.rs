@@ -3,6 +3,7 @@
 use crate::generator::kinds::{self, Kind};
 use crate::player::Call;
 use crate::registers::{Digital, Register};
+use crate::tick::LAST_OF_SAVE;
 use crate::ChannelBox;
 use std::collections::BTreeMap;
 
@@ -16,7 +17,7 @@ fn see(seen: &mut Seen, what: String) {
 /// What a tick does to quarters and counts.
 fn watch_tick(device: &mut ChannelBox, seen: &mut Seen) {
     let before = device.channels;
-    let save = device.save_count >= 1_151_999;
+    let save = device.save_count >= LAST_OF_SAVE;
     device.tick();
     let look = device.free_run_timer % 32 == 0;
     for (channel, before) in device.channels.iter().zip(before) {

@@ -3,6 +3,7 @@
 
 use crate::generator::kinds::{self, Kind};
 use crate::player::Call;
+use crate::tick::LOOK;
 use crate::{ChannelBox, CHANNELS};
 use std::cmp::Ordering;
 use std::collections::BTreeSet;
@@ -47,7 +48,7 @@ fn watch(seed: u64, seen: &mut BTreeSet<String>) {
         };
         for _ in 0..count {
             device.tick();
-            if device.free_run_timer % 32 == 0 {
+            if device.free_run_timer % LOOK == 0 {
                 watch_look(&device, seen);
             }
         }
