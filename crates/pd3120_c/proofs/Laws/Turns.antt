@@ -8,7 +8,7 @@ use lib.ListN.{length, length-map, get_or, set}
 use Rattle.model.specs.declared.Channel.{Channel}
 use Rattle.model.specs.declared.DataChannel.{DataChannel}
 use Rattle.model.specs.declared.Module.{Module}
-use Rattle.model.specs.State.{data_channel_of, module_of, nothing, with_channels}
+use Rattle.model.specs.State.{data_channel_of, module_of, nothing, with_channels, with_data}
 use Rattle.model.specs.Errors.{data_error_of, general_error_of}
 use Rattle.model.specs.Calls.{write, step}
 use Rattle.model.specs.Tick.{save_due, saved}
@@ -27,10 +27,10 @@ use Rattle.pd3120_c.specs.Codes.{packed, Left, Ticked, WriteLeft, each_left, wri
 abbrev pub done_down : (Channel → Channel) → ℕ → ℕ → List Channel → List Channel
 done_down g n k cs = filled (from n k) (λ (j : ℕ). g) cs cs
 
-pub down_none : (g : Channel → Channel) (n : ℕ) (cs : List Channel) → done_down g n n cs ≡ cs
+down_none : (g : Channel → Channel) (n : ℕ) (cs : List Channel) → done_down g n n cs ≡ cs
 down_none g n cs = none (λ (j : ℕ). g) (from n n) cs cs (λ j h. from-none n j)
 
-pub down_more : (g : Channel → Channel) (n k k' : ℕ) (cs : List Channel) (d : Channel) → k ≡ suc k' → k ≤ n → n ≤ length cs
+down_more : (g : Channel → Channel) (n k k' : ℕ) (cs : List Channel) (d : Channel) → k ≡ suc k' → k ≤ n → n ≤ length cs
     → set (done_down g n k cs) k' (g (get_or (done_down g n k cs) k' d)) ≡ done_down g n k' cs
 down_more g n k k' cs d e h l = rw e (in_place (λ (j : ℕ). g) (from n (suc k')) (from n k') k' cs d (omega arith) (down n k' (omega arith)))
 
@@ -41,12 +41,36 @@ down_all g n cs = alike (λ (j : ℕ). g) (from n 0) (below n) cs cs (from_all n
 abbrev pub done_up : (ℕ → Channel → Channel) → ℕ → List Channel → List Channel
 done_up g k cs = filled (below k) g cs cs
 
-pub up_none : (g : ℕ → Channel → Channel) (cs : List Channel) → done_up g 0 cs ≡ cs
+up_none : (g : ℕ → Channel → Channel) (cs : List Channel) → done_up g 0 cs ≡ cs
 up_none g cs = none g (below 0) cs cs (λ j h. below_none j)
 
-pub up_more : (g : ℕ → Channel → Channel) (k : ℕ) (cs : List Channel) (d : Channel) → k < length cs
+up_more : (g : ℕ → Channel → Channel) (k : ℕ) (cs : List Channel) (d : Channel) → k < length cs
     → set (done_up g k cs) k (g k (get_or (done_up g k cs) k d)) ≡ done_up g (suc k) cs
 up_more g k cs d l = in_place g (below k) (below (suc k)) k cs d l (up k)
+
+-- ---- the box in such a loop: m0 before it, m where the loop has come to, and a turn more, with ch in place of the channel there
+pub down_begins : (g : Channel → Channel) (n : ℕ) (m : Module) → m ≡ with_channels (done_down g n n m.channels) m
+down_begins g n m = ap (λ (cs : List Channel). with_channels cs m) (sym (down_none g n m.channels))
+
+pub down_goes : (g : Channel → Channel) (n k k' : ℕ) (m0 m : Module) (ch d : Channel) → k ≡ suc k' → k ≤ n → n ≤ length m0.channels
+    → m ≡ with_channels (done_down g n k m0.channels) m0 → ch ≡ g (get_or m.channels k' d)
+    → with_channels (set m.channels k' ch) m ≡ with_channels (done_down g n k' m0.channels) m0
+down_goes g n k k' m0 m ch d e h l p q =
+    let turn : set m.channels k' ch ≡ done_down g n k' m0.channels = ap (set m.channels k') q
+    ∙ ap (λ (x : Module). set x.channels k' (g (get_or x.channels k' d))) p ∙ down_more g n k k' m0.channels d e h l in
+    ap (λ (cs : List Channel). with_channels cs m) turn ∙ ap (with_channels (done_down g n k' m0.channels)) p
+
+pub up_begins : (g : ℕ → Channel → Channel) (m : Module) → m ≡ with_channels (done_up g 0 m.channels) m
+up_begins g m = ap (λ (cs : List Channel). with_channels cs m) (sym (up_none g m.channels))
+
+pub up_goes : (g : ℕ → Channel → Channel) (k k' : ℕ) (m0 m : Module) (ch d : Channel) → k' ≡ suc k → k < length m0.channels
+    → m ≡ with_channels (done_up g k m0.channels) m0 → ch ≡ g k (get_or m.channels k d)
+    → with_channels (set m.channels k ch) m ≡ with_channels (done_up g k' m0.channels) m0
+up_goes g k k' m0 m ch d e l p q =
+    let turn : set m.channels k ch ≡ done_up g k' m0.channels = ap (set m.channels k) q
+    ∙ ap (λ (x : Module). set x.channels k (g k (get_or x.channels k d))) p ∙ up_more g k m0.channels d l
+    ∙ ap (λ (j : ℕ). done_up g j m0.channels) (sym e) in
+    ap (λ (cs : List Channel). with_channels cs m) turn ∙ ap (with_channels (done_up g k' m0.channels)) p
 
 -- ---- a tick: each channel is ticked, and where the tick saves, saved
 -- one after the other
@@ -115,17 +139,19 @@ tick_left m b d k1 k2 m1 m2 l e f z1 e1 z2 e2 =
 abbrev written : WriteBegun → List Channel → DataChannel → Module
 written b cs d = record { shared = b.shared; service = b.service; channels = cs; data_channel = d }
 
--- where it does not come to the data channel it leaves it, so d is what the model says; k is the place at which the loop ends
-pub write_ends : (m : Module) (n : ℕ) (bs : List ℕ) (i : ℕ) (b : WriteBegun) (d : DataChannel) (k : ℕ) (m' : Module) (code : ℕ) → length m.channels ≡ 16
-    → i ≡ slot_of (n / 16) → WriteLeft m.shared m.service (get_or m.channels i nothing) n bs b → d ≡ data_by m.shared n bs m.data_channel
-    → k ≤ b.count → b.count ≤ k → m' ≡ written b (done_up (each_left b) k (set m.channels i b.channel)) d
+-- m1 is the box where the data channel is written, which another write leaves; m' that at the end of the loop, which is at place k
+pub write_ends : (m : Module) (n : ℕ) (bs : List ℕ) (i : ℕ) (b : WriteBegun) (m1 : Module) (k : ℕ) (m' : Module) (code : ℕ) → length m.channels ≡ 16
+    → i ≡ slot_of (n / 16) → WriteLeft m.shared m.service (get_or m.channels i nothing) n bs b
+    → m1 ≡ with_data (data_by m.shared n bs m.data_channel) m → k ≤ b.count → b.count ≤ k
+    → m' ≡ written b (done_up (each_left b) k (set m1.channels i b.channel)) m1.data_channel
     → code ≡ packed b.number 0 (data_error_of m') (general_error_of m') → Left (step m (write n bs)) m' code
-write_ends m n bs i b d k m' code l p h t u v g e =
+write_ends m n bs i b m1 k m' code l p h t u v g e =
     let own = ap (λ (j : ℕ). get_or m.channels j nothing) (sym p) in
-    let w = h.1.1 m (record { shared_is = refl; service_is = refl; sixteen = l; channel_is = own }) in
-    let d' = data_by m.shared n bs m.data_channel in
+    let w = h.2 m (record { shared_is = refl; service_is = refl; sixteen = l; channel_is = own }) in
+    let d = data_by m.shared n bs m.data_channel in
     let cs = set m.channels i b.channel in
     let at : k ≡ b.count = omega arith in
-    let full = g ∙ ap (λ (j : ℕ). written b (done_up (each_left b) j cs) d) at ∙ ap (written b (done_up (each_left b) b.count cs)) t
-    ∙ ap (λ (ds : List Channel). written b ds d') (first_done (each_left b) b.count cs) ∙ ap (λ (j : ℕ). write_left b j d' m) p in
+    let full = g ∙ ap (λ (x : Module). written b (done_up (each_left b) k (set x.channels i b.channel)) x.data_channel) t
+    ∙ ap (λ (j : ℕ). written b (done_up (each_left b) j cs) d) at ∙ ap (λ (ds : List Channel). written b ds d) (first_done (each_left b) b.count cs)
+    ∙ ap (λ (j : ℕ). write_left b j d m) p in
     (full ∙ w.0, e ∙ ap (λ (x : Module). packed b.number 0 (data_error_of x) (general_error_of x)) full ∙ w.1)
