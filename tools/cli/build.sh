@@ -27,16 +27,18 @@ crates() { # NAME..
     ' crates.txt
 }
 
-# Whether something of a crate is newer than a file. What was built of it, its must-fail edits and what its program is tried
-# on are no part of what it is built from.
+# Whether something that a crate is built from is newer than a file. Its must-fail edits and what its program is tried on are
+# no part of that.
 newer() { # FILE NAME..
     since=$1 folders=
     shift
     for name; do
-        folders="$folders crates/$name"
+        for part in src specs proofs; do
+            [ ! -d "crates/$name/$part" ] || folders="$folders crates/$name/$part"
+        done
     done
     # shellcheck disable=SC2086
-    [ -n "$(find $folders \( -name out -o -name must-fail -o -name stdin -o -name stdout \) -prune -o -path 'crates/*/*' -newer "$since" -print | head -n 1)" ]
+    [ -n "$folders" ] && [ -n "$(find $folders -newer "$since" -print | head -n 1)" ]
 }
 
 # The later of the file that a build made and of its mark here. A build that finds nothing to do makes the mark alone.

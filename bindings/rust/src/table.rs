@@ -56,7 +56,7 @@ mod tests {
     #[test]
     fn every_pattern_of_bits_goes_through_both() {
         for step in 0..=255_u8 {
-            let bytes = core::array::from_fn(|at| (at as u8).wrapping_mul(37).wrapping_add(step));
+            let bytes = std::array::from_fn(|at| (at as u8).wrapping_mul(37).wrapping_add(step));
             assert_eq!(to_bytes(&from_bytes(&bytes)), bytes);
         }
     }

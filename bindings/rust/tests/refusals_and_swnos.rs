@@ -1,4 +1,4 @@
-//! Every refusal by its number, and what a refused call leaves.
+//! As refusals.rs, and the SWNo that a refused wire call has.
 
 mod common;
 

@@ -30,6 +30,7 @@ pub fn set_to(minute: u16) -> Clock
 }
 
 // Each 1920th tick moves the minute; while it is unset nothing moves.
+#[tactic(auto, unfolding(model::specs::Hours::clock_ticked))]
 pub fn tick(clock: Clock) -> Clock
     ensures { result ≡ clock_ticked clock }
 {

@@ -3,12 +3,12 @@
 ghost use Rattle.std.specs.Prelude.{◌≤◌, ◌≡◌, length};
 
 use crate::{answers, calls};
-use libc::{STDERR_FILENO, STDIN_FILENO, STDOUT_FILENO};
 use model::Module;
 use script::calls::Parsed;
 use script::lines::LONGEST_LINE;
 use script::parameters::Wrong;
 use script::{lines, words};
+use std::io::Read;
 
 // No answer is longer than half the buffer: a line's bytes, and what `store` lends, bound it.
 const HALF: usize = 32768;
@@ -86,21 +86,22 @@ fn next_line(m: Module, number: u64, to: usize) -> Next
     }
 }
 
-fn write_out(out: &[u8]) {
-    if !io::write_all(STDOUT_FILENO, out) {
-        io::write_all(STDERR_FILENO, b"play: the answers could not be written\n");
+// Where the answers cannot be written it says so, and the script goes on.
+fn write_out(rt: &(impl Print + Eprint), out: &[u8]) {
+    if rt.write_all(out).is_err() {
+        let _ = rt.eprintln("play: the answers could not be written");
     }
 }
 
 // Writes what is in out where it is half full, and answers where the output goes on.
-fn flush(out: &[u8], to: usize) -> usize
+fn flush(rt: &(impl Print + Eprint), out: &[u8], to: usize) -> usize
     requires { to ≤ length out.now }
     ensures { result ≤ length out.now }
 {
     if to < HALF {
         return to;
     }
-    write_out(&out[0..to]);
+    write_out(rt, &out[0..to]);
     0
 }
 
@@ -111,7 +112,13 @@ struct Ran {
     used: usize,
 }
 
-fn run_lines(p: Player, text: &[u8], space: &mut [u8], out: &mut [u8]) -> Ran
+fn run_lines(
+    rt: &(impl Print + Eprint),
+    p: Player,
+    text: &[u8],
+    space: &mut [u8],
+    out: &mut [u8],
+) -> Ran
     ensures { result.used ≤ length text.now }
 {
     let mut player = p;
@@ -125,25 +132,26 @@ fn run_lines(p: Player, text: &[u8], space: &mut [u8], out: &mut [u8]) -> Ran
         let next = run_line(player, &text[at..end], space, out, to);
         player = next.player;
         let after = next.to;
-        to = flush(out, after);
+        to = flush(rt, out, after);
         at = end + 1;
     }
-    write_out(&out[0..to]);
+    write_out(rt, &out[0..to]);
     Ran {
         player: player,
         used: at,
     }
 }
 
-// Reads more behind the bytes that are there, and answers how many there are then.
-fn fill(text: &mut [u8], have: usize) -> usize
+// Reads more behind the bytes that are there, and answers how many there are then. A read that fails
+// counts as the input's end.
+fn fill(input: &mut impl Read, text: &mut [u8], have: usize) -> usize
     requires { have ≤ length text.old }
     ensures { (have ≤ result) × (result ≤ length text.new) }
 {
-    let part = &mut text[have..];
-    let got = libc::read(STDIN_FILENO, part);
-    let n = io::count(got, part);
-    have + n
+    match input.read(&mut text[have..]) {
+        Ok(n) => have + n,
+        Err(_) => have,
+    }
 }
 
 // Moves the bytes from `from` to `end` to the start.
@@ -166,13 +174,19 @@ pub struct Turn {
 }
 
 // The last line, which no line feed ends.
-fn finish(p: Player, text: &[u8], space: &mut [u8], out: &mut [u8]) -> Turn
+fn finish(
+    rt: &(impl Print + Eprint),
+    p: Player,
+    text: &[u8],
+    space: &mut [u8],
+    out: &mut [u8],
+) -> Turn
     ensures { result.have ≤ 0 }
 {
     let last = run_line(p, text, space, out, 0);
     let player = last.player;
     let to = last.to;
-    write_out(&out[0..to]);
+    write_out(rt, &out[0..to]);
     Turn {
         player: player,
         have: 0,
@@ -205,6 +219,8 @@ fn keep_rest(p: Player, text: &mut [u8], used: usize, full: usize) -> Turn
 }
 
 pub(crate) fn take_turn(
+    input: &mut impl Read,
+    rt: &(impl Print + Eprint),
     p: Player,
     text: &mut [u8],
     have: usize,
@@ -214,11 +230,11 @@ pub(crate) fn take_turn(
     requires { have ≤ length text.old }
     ensures { result.have ≤ length text.new }
 {
-    let full = fill(text, have);
+    let full = fill(input, text, have);
     if full == have {
-        return finish(p, &text[0..have], space, out);
+        return finish(rt, p, &text[0..have], space, out);
     }
-    let ran = run_lines(p, &text[0..full], space, out);
+    let ran = run_lines(rt, p, &text[0..full], space, out);
     let player = ran.player;
     let used = ran.used;
     keep_rest(player, text, used, full)

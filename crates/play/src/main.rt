@@ -8,6 +8,7 @@ mod input;
 
 use input::Player;
 use model::Module;
+use std::io::Read;
 
 // Before the first `power` the box is the one of a refused power-up.
 fn unpowered() -> Module {
@@ -15,30 +16,37 @@ fn unpowered() -> Module {
     started.after
 }
 
-// A proved loop has to end, and nothing says that the input does. So the turns are counted down,
-// from a number that no run uses up.
-fn play(text: &mut [u8], space: &mut [u8], out: &mut [u8]) {
+// A proved loop has to end, and nothing says that the input does. So the turns are counted, up to a
+// number that no run uses up.
+fn play(
+    input: &mut impl Read,
+    rt: &(impl Print + Eprint),
+    text: &mut [u8],
+    space: &mut [u8],
+    out: &mut [u8],
+) {
     let mut player = Player {
         after: unpowered(),
         line: 0,
         long: false,
     };
     let mut have = 0;
-    let mut turns = u64::MAX;
-    while 0 < turns {
-        let turn = input::take_turn(player, text, have, space, out);
+    for _ in 0..u64::MAX {
+        let turn = input::take_turn(input, rt, player, text, have, space, out);
         player = turn.player;
         have = turn.have;
         if !turn.more {
             break;
         }
-        turns -= 1;
     }
 }
 
-fn main() {
-    let mut text = io::large_buffer();
-    let mut space = io::large_buffer();
-    let mut out = io::large_buffer();
-    play(&mut text, &mut space, &mut out);
+// The bytes of each buffer.
+const BUFFER: usize = 65536;
+
+fn main(rt: HostRuntime) {
+    let mut text = [0u8; BUFFER];
+    let mut space = [0u8; BUFFER];
+    let mut out = [0u8; BUFFER];
+    play(&mut rt.stdin(), &rt, &mut text, &mut space, &mut out);
 }

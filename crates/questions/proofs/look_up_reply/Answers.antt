@@ -1,6 +1,4 @@
 use mathlib.Core.Path.{sym, ◌∙◌}
-use mathlib.Core.Bool.{◌||◌}
-use lib.Dec.{eqb}
 use Rattle.model.specs.Questions.{look_up_reply}
 use Rattle.questions.proofs.look_up_reply.Goals as goal
 

@@ -43,9 +43,9 @@ returns-in-Done c =
           (c.channel_left.ensures ∙ ap (channel_left p) (sym own) ∙ channel-left p i m o below
           ∙ ap (λ (r : Reply). get_or (read_leaves r p m).channels i nothing) (sym d));
       buffer = λ cs n w own.
-            let m = box_of s.s s.v s.d cs in
-            buffered m s.swno lent p a.result e a.ensures _
-            (c.fill.ensures i o cs n w own ∙ ap (λ (r : Reply). read_fills r p m lent) (sym d));
+          let m = box_of s.s s.v s.d cs in
+          buffered m s.swno lent p a.result e a.ensures _
+          (c.fill.ensures i o cs n w own ∙ ap (λ (r : Reply). read_fills r p m lent) (sym d));
       reply = a.ensures ∙ ap (λ (q : Place). read_reply s.swno q lent) e;
     }
 
@@ -66,7 +66,7 @@ returns-in-Refused c =
           (ap (λ (r : Reply). (read_leaves r p m).service) (sym d))
           (sym own ∙ ap (λ (r : Reply). get_or (read_leaves r p m).channels i nothing) (sym d));
       buffer = λ cs n w own.
-            let m = box_of s.s s.v s.d cs in
-            buffered m s.swno lent p a.result e a.ensures lent (ap (λ (r : Reply). read_fills r p m lent) (sym d));
+          let m = box_of s.s s.v s.d cs in
+          buffered m s.swno lent p a.result e a.ensures lent (ap (λ (r : Reply). read_fills r p m lent) (sym d));
       reply = a.ensures ∙ ap (λ (q : Place). read_reply s.swno q lent) e;
     }
