@@ -1,5 +1,5 @@
 -- Counter of every channel of a box has 32 signed bits: what owning the box tells. Assumes nothing.
-use mathlib.Core.List.{List, [], ◌∷◌, map}
+use mathlib.Core.List.{List, [], ◌∷◌}
 use Prim.Native.Nat.{ℕ, zero, suc}
 use native.Mathlib.Omega.{arith}
 use lib.ListN.{get_or}
@@ -11,7 +11,7 @@ use Rattle.model.specs.declared.Channel.{Channel}
 use Rattle.model.specs.State.{nothing}
 use Rattle.model.specs.contracts.Channel as Ch
 
-pub counter-held : (cs : List Channel) (us : List Val) (i : ℕ) → shadow (each _ (Ch.the_field).row.own_val (map (Ch.the_type).to cs) us)
+pub counter-held : (cs : List Channel) (us : List Val) (i : ℕ) → shadow (each (Ch.the_row).Denot (Ch.the_row).own_val cs us)
     → SFits w32 (get_or cs i nothing).counter
 counter-held [] us i s = record { sfits = omega arith }
 counter-held (x ∷ xs) (u ∷ us) zero s = record { sfits = s.0.1.1.1.1.1.1.1.0.1 }

@@ -6,29 +6,28 @@ use borrow.Author.Rules.{rules}
 use Rattle.charge.proofs.Laws.Tariffs.{Accepted, accepted, one_more}
 use Rattle.charge.proofs.cents_for.Goals as goal
 
-three : (c : tie.Start) → length c.args.t.limits ≡ 3
-three c = search rules
-
-four : (c : tie.Start) → length c.args.t.prices ≡ 4
-four c = search rules
-
-allowed : (c : tie.Start) → Accepted c.args.t
-allowed c = accepted _ c.requires.1
-
 pub overflow_sub-n : goal.overflow_sub-n
-overflow_sub-n c = omega (arith, (allowed c).some)
+overflow_sub-n c = omega (arith, (accepted c.args.t c.requires.t_value).some)
 
 pub slice_bounds-fill-end : goal.slice_bounds-fill-end
-slice_bounds-fill-end c = omega (arith, (allowed c).few, three c)
+slice_bounds-fill-end c =
+    let three : length c.args.t.limits ≡ 3 = search rules in omega (arith, (accepted c.args.t c.requires.t_value).few)
 
 pub slice_bounds-fill-end-2 : goal.slice_bounds-fill-end-2
-slice_bounds-fill-end-2 c = omega (arith, (allowed c).few, four c)
+slice_bounds-fill-end-2 c =
+    let four : length c.args.t.prices ≡ 4 = search rules in omega (arith, (accepted c.args.t c.requires.t_value).few)
 
 pub fill-requires : goal.fill-requires
 fill-requires c =
-    let s = c in
-    let a = allowed s in
-    simp sub-zero (s.requires.0, (a.rise, (a.cheap, one_more _ a (three s) (four s))))
+    let three : length c.args.t.limits ≡ 3 = search rules in
+    let four : length c.args.t.prices ≡ 4 = search rules in
+    let a = accepted c.args.t c.requires.t_value in
+    record {
+      litres_le_most_litres = c.requires.litres_le_most_litres;
+      limits_value = simp sub-zero a.rise;
+      prices_value = simp sub-zero a.cheap;
+      prices_len = simp sub-zero (one_more _ a three four);
+    }
 
 pub returns : goal.returns
 returns c = simp (sub-zero, c.fill.ensures.0)

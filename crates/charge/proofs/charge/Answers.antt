@@ -2,15 +2,11 @@ use mathlib.Core.Path.{sym, ◌∙◌}
 use Prim.Native.Nat.{◌*◌, ◌≤◌}
 use native.Mathlib.Omega.{arith}
 use mir.Facts.{to_z-of_z}
-use borrow.Author.Tests.{le-leb, lt-leb, not-true, not-false}
+use borrow.Author.Tests.{le-leb, lt-leb}
 use Rattle.charge.specs.Charge.{charged}
 use Rattle.charge.specs.Claims.{most_litres}
 use Rattle.charge.proofs.Laws.Blocks.{litres-held}
 use Rattle.charge.proofs.charge.Goals as goal
-
--- no more litres than the blocks are filled with
-held : (c : tie.After-pulses-between) → c.pulses_between-pulses.result * c.args.litres-per-pulse ≤ most_litres
-held c = litres-held _ _ c.pulses_between-pulses.type_inv c.if-litres_per_pulse-gt-MOST_LITRES_PER_PULSE.false
 
 pub returns-then-litres_per_pulse-lt1 : goal.returns-then-litres_per_pulse-lt1
 unfolding charged
@@ -28,14 +24,18 @@ returns-then-not-tariff_allowed c =
       le-leb 1 _ c.if-litres_per_pulse-lt1.false,
       le-leb _ 10000 c.if-litres_per_pulse-gt-MOST_LITRES_PER_PULSE.false,
       sym c.tariff_allowed.ensures,
-      not-true c.tariff_allowed.result c.if-not-tariff_allowed.true,
+      c.if-not-tariff_allowed.true,
     )
 
 pub overflow_mul-litres : goal.overflow_mul-litres
-overflow_mul-litres c = omega (arith, held c)
+overflow_mul-litres c = omega (arith, litres-held _ _ c.pulses_between-pulses.type_inv c.if-litres_per_pulse-gt-MOST_LITRES_PER_PULSE.false)
 
 pub cents_for-requires : goal.cents_for-requires
-cents_for-requires c = (held c, sym c.tariff_allowed.ensures ∙ not-false _ c.if-not-tariff_allowed.false)
+cents_for-requires c = record {
+  -- no more litres than the blocks are filled with
+  litres_le_most_litres = litres-held _ _ c.pulses_between-pulses.type_inv c.if-litres_per_pulse-gt-MOST_LITRES_PER_PULSE.false;
+  t_value = sym c.tariff_allowed.ensures ∙ c.if-not-tariff_allowed.false;
+}
 
 pub returns : goal.returns
 unfolding charged
@@ -49,5 +49,5 @@ returns c =
       le-leb 1 _ c.if-litres_per_pulse-lt1.false,
       le-leb _ 10000 c.if-litres_per_pulse-gt-MOST_LITRES_PER_PULSE.false,
       sym c.tariff_allowed.ensures,
-      not-false c.tariff_allowed.result c.if-not-tariff_allowed.false,
+      c.if-not-tariff_allowed.false,
     )

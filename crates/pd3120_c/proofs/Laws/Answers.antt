@@ -75,9 +75,3 @@ minute-done n s t code h f = λ m e. packed_step (step m (minute n)) _ code (h m
 pub windows-done : (k : ℕ) (ws : List ℕ) (ch : Channel) (t : Taken) (code : ℕ) → WindowsBy k ws ch t → code ≡ reply_code t.reply false false
     → WindowsLeft k ws ch (record { after = t.after; code = code })
 windows-done k ws ch t code h f = λ m p. packed_step (step m (windows k ws)) _ code (h m p) f
-
--- and of the caller's
-pub sample-left : (m : Module) (k : ℕ) (b : Bool) (x : Float) (i : ℕ) (d : ChannelDone) → i ≡ slot_of k
-    → SampleLeft k b x m.shared (get_or m.channels i nothing) d
-    → Left (step m (sample k b x)) (with_channels (set m.channels i d.after) m) d.code
-sample-left m k b x i d e h = rw e (h m refl (ap (λ (j : ℕ). get_or m.channels j nothing) (sym e)))

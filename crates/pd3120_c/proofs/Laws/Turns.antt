@@ -23,6 +23,13 @@ use Rattle.writes.proofs.Laws.Begun.{first_done}
 use Rattle.pd3120_c.specs.declared.WriteBegun.{WriteBegun}
 use Rattle.pd3120_c.specs.Codes.{packed, Left, Ticked, WriteLeft, each_left, write_left}
 
+-- such a loop leaves as many
+length-filled : (done : ℕ → Bool) (g : ℕ → Channel → Channel) (xs ys : List Channel) → length (filled done g xs ys) ≡ length ys
+unfolding filled
+length-filled done g [] ys = refl
+length-filled done g (x ∷ xs) [] = refl
+length-filled done g (x ∷ xs) (y ∷ ys) = ap suc (length-filled (λ (j : ℕ). done (suc j)) (λ (j : ℕ). g (suc j)) xs ys)
+
 -- ---- a loop from the channel at place n down: those from place k on are done
 abbrev pub done_down : (Channel → Channel) → ℕ → ℕ → List Channel → List Channel
 done_down g n k cs = filled (from n k) (λ (j : ℕ). g) cs cs
@@ -52,23 +59,34 @@ up_more g k cs d l = in_place g (below k) (below (suc k)) k cs d l (up k)
 pub down_begins : (g : Channel → Channel) (n : ℕ) (m : Module) → m ≡ with_channels (done_down g n n m.channels) m
 down_begins g n m = ap (λ (cs : List Channel). with_channels cs m) (sym (down_none g n m.channels))
 
-pub down_goes : (g : Channel → Channel) (n k k' : ℕ) (m0 m : Module) (ch d : Channel) → k ≡ suc k' → k ≤ n → n ≤ length m0.channels
+-- it has as many channels as before
+as_long : (done : ℕ → Bool) (g : ℕ → Channel → Channel) (m0 m : Module) → m ≡ with_channels (filled done g m0.channels m0.channels) m0
+    → length m.channels ≡ length m0.channels
+as_long done g m0 m p = ap (λ (x : Module). length x.channels) p ∙ length-filled done g m0.channels m0.channels
+
+pub down_long : (g : Channel → Channel) (n k size : ℕ) (m0 m : Module) → m ≡ with_channels (done_down g n k m0.channels) m0 → length m.channels ≡ size
+    → length m0.channels ≡ size
+down_long g n k size m0 m p l = sym (as_long (from n k) (λ (j : ℕ). g) m0 m p) ∙ l
+
+pub down_goes : (g : Channel → Channel) (n k k' : ℕ) (m0 m : Module) (ch d : Channel) → k ≡ suc k' → k ≤ n → n ≤ length m.channels
     → m ≡ with_channels (done_down g n k m0.channels) m0 → ch ≡ g (get_or m.channels k' d)
     → with_channels (set m.channels k' ch) m ≡ with_channels (done_down g n k' m0.channels) m0
 down_goes g n k k' m0 m ch d e h l p q =
+    let long : n ≤ length m0.channels = omega (arith, as_long (from n k) (λ (j : ℕ). g) m0 m p) in
     let turn : set m.channels k' ch ≡ done_down g n k' m0.channels = ap (set m.channels k') q
-    ∙ ap (λ (x : Module). set x.channels k' (g (get_or x.channels k' d))) p ∙ down_more g n k k' m0.channels d e h l in
+    ∙ ap (λ (x : Module). set x.channels k' (g (get_or x.channels k' d))) p ∙ down_more g n k k' m0.channels d e h long in
     ap (λ (cs : List Channel). with_channels cs m) turn ∙ ap (with_channels (done_down g n k' m0.channels)) p
 
 pub up_begins : (g : ℕ → Channel → Channel) (m : Module) → m ≡ with_channels (done_up g 0 m.channels) m
 up_begins g m = ap (λ (cs : List Channel). with_channels cs m) (sym (up_none g m.channels))
 
-pub up_goes : (g : ℕ → Channel → Channel) (k k' : ℕ) (m0 m : Module) (ch d : Channel) → k' ≡ suc k → k < length m0.channels
+pub up_goes : (g : ℕ → Channel → Channel) (k k' : ℕ) (m0 m : Module) (ch d : Channel) → k' ≡ suc k → k < length m.channels
     → m ≡ with_channels (done_up g k m0.channels) m0 → ch ≡ g k (get_or m.channels k d)
     → with_channels (set m.channels k ch) m ≡ with_channels (done_up g k' m0.channels) m0
 up_goes g k k' m0 m ch d e l p q =
+    let long : k < length m0.channels = omega (arith, as_long (below k) g m0 m p) in
     let turn : set m.channels k ch ≡ done_up g k' m0.channels = ap (set m.channels k) q
-    ∙ ap (λ (x : Module). set x.channels k (g k (get_or x.channels k d))) p ∙ up_more g k m0.channels d l
+    ∙ ap (λ (x : Module). set x.channels k (g k (get_or x.channels k d))) p ∙ up_more g k m0.channels d long
     ∙ ap (λ (j : ℕ). done_up g j m0.channels) (sym e) in
     ap (λ (cs : List Channel). with_channels cs m) turn ∙ ap (with_channels (done_up g k' m0.channels)) p
 

@@ -1,6 +1,7 @@
 use mathlib.Core.Path.{◌≡◌}
 use mathlib.Core.Bool.{true}
-use Prim.Native.Nat.{ℕ, ◌≤◌}
+use Prim.Native.Nat.{ℕ, ◌<◌, ◌≤◌}
+use lib.ListN.{length}
 use Rattle.model.specs.State.{with_channels}
 use Rattle.model.specs.Tick.{saved}
 use Rattle.ticks.specs.Begun.{ticked_by}
@@ -11,6 +12,8 @@ abbrev pub invariant-loop-k : goal.invariant-loop-k
 invariant-loop-k l = record {
   in_range : l.k ≤ 16;
   module_is : l.m ≡ with_channels (done_down (ticked_by l.begun) 16 l.k l.initial.m.channels) l.initial.m;
+  -- the first turn tells it
+  sixteen : l.k < 16 → length l.initial.m.channels ≡ 16;
 }
 
 abbrev pub decreases-loop-k : goal.decreases-loop-k

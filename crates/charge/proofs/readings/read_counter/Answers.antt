@@ -34,11 +34,11 @@ returns c =
     let to-16 = le-leb k 16 c.if-channel-gt16.false in
     let digital : is_digital k ≡ true = rw (from-1, to-16) refl in
     let r = c.read-done in
-    let bytes = r.new.1.1.0 in
+    let bytes = r.new.buf in
     let four : length bytes ≡ 4 = search rules in
     let counter = c.i32_of_bytes in
     let count : to_z w32 (of_z w32 counter.result) ≡ (channel_at m k).counter
-    = to_z-of_z w32 _ (record { sfits = counter.type-inv }) ∙ counter.ensures ∙ ap signed_number (four_bytes bytes four)
+    = to_z-of_z w32 _ (record { sfits = counter.type_inv }) ∙ counter.ensures ∙ ap signed_number (four_bytes bytes four)
     ∙ ap (λ (s : Stepped). signed_number s.answer.buffer) r.ensures
-    ∙ counter-read m k digital (counter-held m.channels _ (k - 1) start.well-formed.0.1.1.1.1.0.1.1) in
+    ∙ counter-read m k digital (counter-held m.channels _ (k - 1) start.well_formed.0.1.1.1.1.0.1.1) in
     rw (digital, count, c.number.ensures) (ap (λ (s : Stepped). read_as s (channel_at m k).counter) r.ensures)
