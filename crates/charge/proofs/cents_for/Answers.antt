@@ -3,7 +3,7 @@ use native.Mathlib.Nat.{sub-zero}
 use native.Mathlib.Omega.{arith}
 use lib.ListN.{length}
 use borrow.Author.Rules.{rules}
-use Rattle.charge.proofs.Laws.Tariffs.{Accepted, accepted, one_more}
+use Rattle.charge.proofs.Laws.Tariffs.{accepted, one_more}
 use Rattle.charge.proofs.cents_for.Goals as goal
 
 pub overflow_sub-n : goal.overflow_sub-n

@@ -1,10 +1,8 @@
 use mathlib.Core.Path.{sym, ◌∙◌}
-use Prim.Native.Nat.{◌*◌, ◌≤◌}
 use native.Mathlib.Omega.{arith}
 use mir.Facts.{to_z-of_z}
 use borrow.Author.Tests.{le-leb, lt-leb}
 use Rattle.charge.specs.Charge.{charged}
-use Rattle.charge.specs.Claims.{most_litres}
 use Rattle.charge.proofs.Laws.Blocks.{litres-held}
 use Rattle.charge.proofs.charge.Goals as goal
 

@@ -1,8 +1,6 @@
 use mathlib.Core.Path.{refl}
-use Prim.Native.Nat.{◌-◌}
 use native.Mathlib.Numerals.{add-one}
 use native.Mathlib.Omega.{arith}
-use lib.ListN.{length}
 use Rattle.charge.proofs.Laws.Blocks.{most, first, next, last}
 use borrow.Author.Rules.{rules}
 use Rattle.charge.proofs.fill.Goals as goal
