@@ -1,16 +1,14 @@
 -- An answer packed: the module and the code of the model's step, from what the library's call and the packing give. Assumes nothing.
-use mathlib.Core.Path.{◌≡◌, refl, sym, ap, ◌∙◌}
+use mathlib.Core.Path.{◌≡◌, sym, ap, ◌∙◌}
 use mathlib.Core.Bool.{Bool, false}
 use mathlib.Core.List.{List}
 use Prim.Native.Nat.{ℕ, ◌/◌}
-use lib.ListN.{get_or, set}
 use lib.Ieee.{Float}
 use Rattle.model.specs.declared.Channel.{Channel}
 use Rattle.model.specs.declared.DataChannel.{DataChannel}
-use Rattle.model.specs.declared.Module.{Module}
 use Rattle.model.specs.declared.Service.{Service}
 use Rattle.model.specs.declared.Shared.{Shared}
-use Rattle.model.specs.State.{data_channel_of, nothing, with_channels}
+use Rattle.model.specs.State.{data_channel_of}
 use Rattle.model.specs.Errors.{data_error_of, general_error_of}
 use Rattle.model.specs.Questions.{number_of, length_of}
 use Rattle.model.specs.Calls.{sample, minute, windows, Stepped, step}
@@ -22,7 +20,6 @@ use Rattle.pd3120.specs.declared.Changed.{Changed}
 use Rattle.pd3120.specs.declared.opening.MinuteSet.{MinuteSet}
 use Rattle.pd3120.specs.declared.samples.Taken.{Taken}
 use Rattle.pd3120.specs.Parts.{ReadBy, WriteBy, SampleBy, MinuteBy, WindowsBy}
-use Rattle.pd3120_c.specs.declared.ChannelDone.{ChannelDone}
 use Rattle.pd3120_c.specs.Codes.{packed, reply_code, answer_code, Left, SampleLeft, MinuteLeft, WindowsLeft, ReadLeft, WriteLeft}
 
 -- the parts of a read put back

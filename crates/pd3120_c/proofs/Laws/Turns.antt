@@ -8,7 +8,7 @@ use lib.ListN.{length, length-map, get_or, set}
 use Rattle.model.specs.declared.Channel.{Channel}
 use Rattle.model.specs.declared.DataChannel.{DataChannel}
 use Rattle.model.specs.declared.Module.{Module}
-use Rattle.model.specs.State.{data_channel_of, module_of, nothing, with_channels, with_data}
+use Rattle.model.specs.State.{nothing, with_channels, with_data}
 use Rattle.model.specs.Errors.{data_error_of, general_error_of}
 use Rattle.model.specs.Calls.{write, step}
 use Rattle.model.specs.Tick.{save_due, saved}

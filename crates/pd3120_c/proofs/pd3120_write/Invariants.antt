@@ -1,5 +1,5 @@
 use mathlib.Core.Path.{◌≡◌}
-use Prim.Native.Nat.{ℕ, ◌-◌, ◌≤◌}
+use Prim.Native.Nat.{◌-◌, ◌≤◌}
 use Rattle.model.specs.State.{with_channels}
 use Rattle.pd3120_c.specs.Codes.{each_left}
 use Rattle.pd3120_c.proofs.Laws.Turns.{done_up}
