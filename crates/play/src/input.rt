@@ -43,7 +43,10 @@ fn parse(number: u64, long: bool, line: &[u8], space: &mut [u8]) -> Parsed
     if long {
         return script::calls::wrong(Wrong::LineTooLong);
     }
-    lines::parse(number == 1, line, space)
+    if number == 1 {
+        return lines::parse_first(line, space);
+    }
+    lines::parse(line, space)
 }
 
 fn run_line(p: Player, line: &[u8], space: &mut [u8], out: &mut [u8], at: usize) -> Next

@@ -73,6 +73,7 @@ pub fn read_reply(swno: u16, p: Place, lent: &[u8]) -> Reply
 }
 
 // Questions 1, 2, 3, 4, 6 and 7, of a write; enable is WriteEnable.
+#[tactic(auto, unfolding(model::specs::Questions::write_reply))]
 pub fn write_reply(enable: bool, swno: u16, p: Place, bytes: &[u8]) -> Reply
     ensures { result ≡ write_reply enable swno (placed p) bytes.now }
 {
@@ -107,6 +108,7 @@ pub(crate) fn is_digital(k: u8) -> bool
 }
 
 // 8 of the channel, then 9 of the current.
+#[tactic(auto, unfolding(model::specs::Questions::sample_reply))]
 pub fn sample_reply(k: u8, x: f32) -> Reply
     ensures { result ≡ sample_reply k x }
 {

@@ -1,5 +1,6 @@
 // Numbers and byte strings as digits.
-ghost use Rattle.std.specs.Prelude.{◌≤◌, length};
+ghost use Rattle.std.specs.Prelude.{◌≡◌, ◌+◌, ◌<◌, ◌≤◌, length, take};
+ghost use Rattle.script.specs.Digits.{last_digits, IsDigitCount};
 
 // A digit's value; 16 for a byte that is no hexadecimal digit.
 fn value(b: u8) -> u8
@@ -86,4 +87,50 @@ pub fn parse_bytes(word: &[u8], out: &mut [u8]) -> usize
         i += 2;
     }
     n
+}
+
+// How many decimal digits a number takes.
+fn digit_count(n: u64) -> usize
+    ensures { IsDigitCount n result }
+{
+    let mut k = 1;
+    let mut rest = n / 10;
+    while 0 < rest {
+        rest /= 10;
+        k += 1;
+    }
+    k
+}
+
+// The character of a decimal digit.
+fn character(digit: u64) -> u8
+    requires { digit < 10 }
+    ensures { result ≡ 48 + digit }
+{
+    b'0' + digit as u8
+}
+
+// Puts the last k decimal digits of a number at the start of out.
+fn write_digits(n: u64, k: usize, out: &mut [u8])
+    requires { k ≤ length out.old }
+    ensures { take k out.new ≡ last_digits k n }
+{
+    let mut i = k;
+    let mut rest = n;
+    while 0 < i {
+        i -= 1;
+        out[i] = character(rest % 10);
+        rest /= 10;
+    }
+}
+
+// Puts a number's decimal digits at the start of out, and answers how many there are.
+pub(crate) fn decimal(n: u64, out: &mut [u8; 20]) -> usize
+    ensures in_bounds { result ≤ length out.new }
+    ensures len { IsDigitCount n result }
+    ensures digits { take result out.new ≡ last_digits result n }
+{
+    let k = digit_count(n);
+    write_digits(n, k, out);
+    k
 }

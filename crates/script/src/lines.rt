@@ -127,13 +127,22 @@ fn parse_text(text: &[u8], space: &mut [u8]) -> Parsed
     parse_rest(name, &text[end..], space)
 }
 
-// Where the text of a line begins: after the UTF-8 mark that some editors put before the first.
-fn text_start(first: bool, line: &[u8]) -> usize
+// What is wrong is the first of: the line's length, the call's name, the number of words, the words
+// from left to right.
+pub fn parse(line: &[u8], space: &mut [u8]) -> Parsed
+    ensures { result.n ≤ length space.new }
+{
+    if LONGEST_LINE < line.len() {
+        return calls::wrong(Wrong::LineTooLong);
+    }
+    let end = words::find(line, 0, b'#');
+    parse_text(&line[0..end], space)
+}
+
+// Where the text of a script begins: after the UTF-8 mark that some editors put before it.
+fn text_start(line: &[u8]) -> usize
     ensures { result ≤ length line.now }
 {
-    if !first {
-        return 0;
-    }
     if line.len() < 3 {
         return 0;
     }
@@ -143,15 +152,13 @@ fn text_start(first: bool, line: &[u8]) -> usize
     0
 }
 
-// What is wrong is the first of: the line's length, the call's name, the number of words, the words
-// from left to right.
-pub fn parse(first: bool, line: &[u8], space: &mut [u8]) -> Parsed
+// A script's first line, which may begin with the mark. The mark counts to the line's length.
+pub fn parse_first(line: &[u8], space: &mut [u8]) -> Parsed
     ensures { result.n ≤ length space.new }
 {
     if LONGEST_LINE < line.len() {
         return calls::wrong(Wrong::LineTooLong);
     }
-    let start = text_start(first, line);
-    let end = words::find(line, start, b'#');
-    parse_text(&line[start..end], space)
+    let start = text_start(line);
+    parse(&line[start..], space)
 }

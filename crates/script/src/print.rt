@@ -1,6 +1,8 @@
 // Answers as text: each function puts its text into out from `at` on, as much as there is room for,
 // and answers the place after it.
-ghost use Rattle.std.specs.Prelude.{◌<◌, ◌≤◌, length};
+ghost use Rattle.std.specs.Prelude.{◌≤◌, length};
+
+use crate::digits;
 
 pub fn put(out: &mut [u8], at: usize, text: &[u8]) -> usize
     requires { at ≤ length out.old }
@@ -19,31 +21,15 @@ pub fn put(out: &mut [u8], at: usize, text: &[u8]) -> usize
     to
 }
 
-// Puts a number's decimal digits at the end of text, and answers where they begin. No number of 64
-// bits has more than twenty.
-fn decimal(n: u64, text: &mut [u8; 20]) -> usize
-    ensures { result < 20 }
-{
-    let mut rest = n / 10;
-    let mut at = 19;
-    text[19] = b'0' + (n % 10) as u8;
-    while 0 < at && 0 < rest {
-        at -= 1;
-        text[at] = b'0' + (rest % 10) as u8;
-        rest /= 10;
-    }
-    at
-}
-
 // A number in decimal digits, after a blank.
 pub fn put_number(out: &mut [u8], at: usize, n: u64) -> usize
     requires { at ≤ length out.old }
     ensures { result ≤ length out.new }
 {
     let mut text = [0u8; 20];
-    let from = decimal(n, &mut text);
+    let k = digits::decimal(n, &mut text);
     let to = put(out, at, b" ");
-    put(out, to, &text[from..])
+    put(out, to, &text[..k])
 }
 
 // A bit, as 0 or 1, after a blank.
