@@ -58,21 +58,28 @@ fn is_done(r: Reply) -> bool
     }
 }
 
-// A refused image gives the box of all-zero settings.
+// Powers m up from an image. A refused one gives the box of all-zero settings.
+pub fn power_up_in_place(m: &mut Module, img: &[u8]) -> Reply
+    ensures after { m.new ≡ power_up img.now }
+    ensures reply { result ≡ power_up_reply img.now }
+{
+    let reply = power_up_reply(img);
+    if is_done(reply) {
+        decode::put_box(img, m);
+        return reply;
+    }
+    let zeros = [0; sizes::IMAGE];
+    decode::put_box(&zeros, m);
+    reply
+}
+
+// The same for a box that is not there yet.
 pub fn power_up(img: &[u8]) -> Started
     ensures after { result.after ≡ power_up img.now }
     ensures reply { result.reply ≡ power_up_reply img.now }
 {
-    let reply = power_up_reply(img);
-    if is_done(reply) {
-        let after = decode::box_of(img);
-        return Started {
-            after: after,
-            reply: reply,
-        };
-    }
-    let zeros = [0; sizes::IMAGE];
-    let after = decode::box_of(&zeros);
+    let mut after = decode::blank();
+    let reply = power_up_in_place(&mut after, img);
     Started {
         after: after,
         reply: reply,

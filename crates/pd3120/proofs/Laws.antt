@@ -3,3 +3,4 @@ pub mod Samples
 pub mod Storing
 pub mod Bytes
 pub mod Minute
+pub mod Powering

@@ -84,6 +84,13 @@ pub fn store(m: Module, buf: &mut [u8]) -> Reply
     image::store(m, buf)
 }
 
+// The same for a box that is there, without a second one beside it.
+pub fn power_up_in_place(m: &mut Module, img: &[u8]) -> Reply
+    ensures { PoweredUp img.now (record { after = m.new; reply = result }) }
+{
+    image::power_up_in_place(m, img)
+}
+
 // Every wire call first clears Act bit 3 of the service channel.
 fn clear(v: Service) -> Service
     ensures { RecordBy cleared v result }

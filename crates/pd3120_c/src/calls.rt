@@ -6,22 +6,17 @@ ghost use Rattle.errors.specs.Words.{words_of};
 ghost use Rattle.writes.specs.Begun.{data_by};
 ghost use Rattle.pd3120_c.specs.Codes.{packed, SampleLeft, ReadLeft, WriteLeft, each_left, LookedUpLeft, MinuteLeft, WindowsLeft, PoweredUp, Stored};
 
-use crate::{ChannelDone, Done, ReadDone, SharedDone, WriteBegun, codes};
+use crate::{ChannelDone, ReadDone, SharedDone, WriteBegun, codes};
 use errors::words;
 use errors::words::Words;
 use model::{Channel, DataChannel, Module, Service, Shared};
 use pd3120::{lookups, opening, replies, samples};
 
-pub fn power_up(img: &[u8]) -> Done
-    ensures { PoweredUp img.now result.after result.code }
+pub fn power_up(m: &mut Module, img: &[u8]) -> u32
+    ensures { PoweredUp img.now m.new result }
 {
-    let started = pd3120::power_up(img);
-    let after = started.after;
-    let reply = started.reply;
-    Done {
-        after: after,
-        code: codes::pack(reply, false, false),
-    }
+    let reply = pd3120::power_up_in_place(m, img);
+    codes::pack(reply, false, false)
 }
 
 pub fn store(m: Module, buf: &mut [u8]) -> u32

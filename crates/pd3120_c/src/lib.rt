@@ -15,13 +15,6 @@ use model::{Channel, Module, Service, Shared};
 use pd3120::samples;
 use registers::Place;
 
-// The module that a call leaves, and the code of its answer.
-#[derive(Clone, Copy)]
-pub struct Done {
-    pub after: Module,
-    pub code: u32,
-}
-
 // The channel that a sample, or windows for it, leave, and the code of the answer.
 #[derive(Clone, Copy)]
 pub struct ChannelDone {
@@ -63,9 +56,7 @@ pub struct WriteBegun {
 pub extern "C" fn pd3120_power_up(m: &mut Module, image: &[u8]) -> u32
     ensures { PoweredUp image.now m.new result }
 {
-    let done = calls::power_up(image);
-    *m = done.after;
-    done.code
+    calls::power_up(m, image)
 }
 
 // The kept values, as the first 886 bytes of the buffer.

@@ -4,10 +4,10 @@ use Rattle.model.specs.Calls.{power_up}
 use Rattle.model.specs.Questions.{accepted}
 use Rattle.image.proofs.Laws.Sections.{filled-sized}
 use Rattle.image.proofs.Laws.Tests.{done-sized, started-done, started-refused}
-use Rattle.image.proofs.power_up.Goals as goal
+use Rattle.image.proofs.power_up_in_place.Goals as goal
 
-pub box_of-after-requires : goal.box_of-after-requires
-box_of-after-requires c = done-sized c.args.img.now
+pub put_box-requires : goal.put_box-requires
+put_box-requires c = done-sized c.args.img.now
     (sym (c.is_done.ensures ∙ ap accepted c.power_up_reply-reply.ensures) ∙ c.if-is_done.true)
 
 pub returns-then-is_done : goal.returns-then-is_done
@@ -16,10 +16,10 @@ returns-then-is_done c =
     let img = c.args.img.now in
     let reply = c.power_up_reply-reply.ensures in
     let done = sym (c.is_done.ensures ∙ ap accepted reply) ∙ c.if-is_done.true in
-    record { after = c.box_of-after.ensures ∙ started-done (power_up_reply img) img done; reply = reply }
+    record { after = c.put_box.ensures ∙ started-done (power_up_reply img) img done; reply = reply }
 
-pub box_of-after-requires-2 : goal.box_of-after-requires-2
-box_of-after-requires-2 c = filled-sized _
+pub put_box-requires-2 : goal.put_box-requires-2
+put_box-requires-2 c = filled-sized _
 
 pub returns : goal.returns
 unfolding power_up
@@ -27,4 +27,4 @@ returns c =
     let img = c.args.img.now in
     let reply = c.power_up_reply-reply.ensures in
     let refused = sym (c.is_done.ensures ∙ ap accepted reply) ∙ c.if-is_done.false in
-    record { after = c.box_of-after-2.ensures ∙ started-refused (power_up_reply img) img refused; reply = reply }
+    record { after = c.put_box-2.ensures ∙ started-refused (power_up_reply img) img refused; reply = reply }

@@ -2,7 +2,7 @@ use native.Mathlib.Omega.{arith}
 use Rattle.model.specs.Image.{setup_from, decode}
 use Rattle.model.specs.Restored.{powered_up}
 use Rattle.image.proofs.Laws.Sections.{has, section-at}
-use Rattle.image.proofs.decode.box_of.Goals as goal
+use Rattle.image.proofs.decode.put_box.Goals as goal
 
 pub returns : goal.returns
 unfolding powered_up decode setup_from
@@ -12,4 +12,4 @@ returns c =
     let two = has img s.requires 2 (omega arith) s.requires.least in
     let module-at = section-at img s.requires 0 (omega (arith, two)) (omega arith) in
     let channels-at = section-at img s.requires 1 (omega (arith, two)) (omega arith) in
-    rw (c.image_data-data.ensures, c.channels_of-channels.ensures, c.shared_of-shared.ensures, module-at, channels-at)
+    rw (c.image_data-m.ensures, c.put_channels.ensures, c.service_of-m.ensures, c.shared_of-shared.ensures, module-at, channels-at)

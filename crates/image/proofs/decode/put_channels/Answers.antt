@@ -1,5 +1,5 @@
 use borrow.Author.Rules.{rules}
-use mathlib.Core.Path.{◌≡◌, refl, sym, ap, ◌∙◌}
+use mathlib.Core.Path.{◌≡◌, sym, ap, ◌∙◌}
 use Prim.Native.Nat.{ℕ, suc, ◌+◌, ◌*◌, ◌-◌, ◌<◌}
 use native.Mathlib.Numerals.{add-one}
 use native.Mathlib.Omega.{arith}
@@ -9,12 +9,12 @@ use Rattle.model.specs.Restored.{restored}
 use Rattle.model.proofs.Laws.Filled.{none, one_more, below, below_none, all-below, up}
 use Rattle.model.proofs.Images.Sequence.{entries-count}
 use Rattle.image.proofs.Laws.Entries.{entry_at}
-use Rattle.image.proofs.decode.channels_of.Goals as goal
+use Rattle.image.proofs.decode.put_channels.Goals as goal
 
 pub loop-k-init : goal.loop-k-init
 loop-k-init c =
     let l = c.args.s.now in
-    (search rules, refl, sym (none (λ (j : ℕ). restored) (below 0) (entries_from 16 l) _ (λ j h. below_none j)))
+    (search rules, c.requires.1, sym (none (λ (j : ℕ). restored) (below 0) (entries_from 16 l) _ (λ j h. below_none j)))
 
 pub loop-k-preserved : goal.loop-k-preserved
 loop-k-preserved c =
