@@ -72,7 +72,8 @@ fn compare_kind<D: Device + Default>(
     kind: Kind,
 ) -> Result<usize, Box<Difference>> {
     let script = kinds::calls(seed, calls, kind);
-    let played = script.len();
+    // a look at the outputs is no call
+    let played = script.iter().filter(|call| !matches!(call, Call::Outputs)).count();
     let (mut model, mut device) = (ChannelBox::default(), D::default());
     for (index, call) in script.iter().enumerate() {
         let expected = Shown::after(call, &mut model);
