@@ -191,12 +191,9 @@ pub fn begin_write(s: Shared, v: Service, ch: Channel, swno: u16, bytes: &[u8]) 
     ensures { WriteBy s v ch swno bytes.now result }
 {
     let ready = clear(v);
-    let begun = writes::begin(s, ready, ch, swno, bytes);
-    let shared = begun.shared;
-    let left = begun.service;
-    let mut next = begun;
-    next.service = preset_watchdog(shared, left);
-    next
+    let mut begun = writes::begin(s, ready, ch, swno, bytes);
+    begun.service = preset_watchdog(begun.shared, begun.service);
+    begun
 }
 
 // The two bits are those after the effect.

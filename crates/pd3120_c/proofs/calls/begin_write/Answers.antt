@@ -6,5 +6,5 @@ pub returns : goal.returns
 returns c =
     let s = c.args in
     let b = c.begin_write-begun in
-    write-left s.s s.v s.ch s.swno s.bytes.now b.result _ b.ensures c.number.ensures
-    (write-length s.s s.v s.ch s.swno s.bytes.now b.result b.ensures)
+    write-left s.s.now s.v.now s.ch.now s.swno s.bytes.now b.result _ b.ensures c.number.ensures
+    (write-length s.s.now s.v.now s.ch.now s.swno s.bytes.now b.result b.ensures)
