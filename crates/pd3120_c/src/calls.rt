@@ -11,8 +11,8 @@ use crate::{ChannelDone, ReadDone, SharedDone, codes};
 use errors::words;
 use errors::words::Words;
 use model::{Channel, DataChannel, Module, Service, Shared};
-use registers::Place;
 use pd3120::{lookups, opening, replies, samples};
+use registers::Place;
 
 // What is left of a write (`WriteBegun`) when the parts that it changes first are put back.
 #[derive(Clone, Copy)]
@@ -78,18 +78,15 @@ pub fn begin_write(
 ) -> Rest
     ensures { WriteLeft s.old v.old ch.old swno bytes.now (record { shared = s.new; service = v.new; channel = ch.new; count = result.count; number = result.number; of_data = result.of_data; place = result.place; word = result.word }) }
 {
-    let begun = pd3120::begin_write(*s, *v, *ch, swno, bytes);
-    *s = begun.shared;
-    *v = begun.service;
-    *ch = begun.channel;
-    let reply = begun.reply;
-    let place = begun.place;
+    let rest = pd3120::begin_write_in_place(s, v, ch, swno, bytes);
+    let reply = rest.reply;
+    let place = rest.place;
     Rest {
-        count: begun.count,
+        count: rest.count,
         number: replies::number(reply),
-        of_data: begun.of_data,
+        of_data: rest.of_data,
         place: place,
-        word: begun.word,
+        word: rest.word,
     }
 }
 
