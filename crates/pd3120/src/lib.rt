@@ -9,6 +9,7 @@ ghost use Rattle.model.specs.Questions.{read_reply};
 ghost use Rattle.model.specs.Calls.{read, write, sample, look_up, minute, windows, tick, step, cleared, watchdog_preset};
 ghost use Rattle.pd3120.specs.Answers.{step_of, sample_of, look_up_of, tick_of, output_at, request_of, answer_buffer, lent_after, RecordBy, SharedBy, PoweredUp};
 ghost use Rattle.pd3120.specs.Answers.{StoredBy, plain_of};
+ghost use Rattle.writes.specs.Begun.{begun_with};
 ghost use Rattle.pd3120.specs.Parts.{ReadBy, WriteBy};
 
 pub mod lookups;
@@ -20,7 +21,7 @@ use errors::words;
 use errors::words::Words;
 use lookups::LookedUp;
 use model::{Call, Channel, DataChannel, Module, Reply, Service, Shared};
-use writes::Begun;
+use writes::{Begun, Rest};
 
 // What power-up answers, and the box.
 #[derive(Clone, Copy)]
@@ -197,6 +198,22 @@ pub fn begin_write(s: Shared, v: Service, ch: Channel, swno: u16, bytes: &[u8]) 
     let mut next = begun;
     next.service = preset_watchdog(shared, left);
     next
+}
+
+// The same for a caller that lends these parts.
+pub fn begin_write_in_place(
+    s: &mut Shared,
+    v: &mut Service,
+    ch: &mut Channel,
+    swno: u16,
+    bytes: &[u8],
+) -> Rest
+    ensures { WriteBy s.old v.old ch.old swno bytes.now (begun_with s.new v.new ch.new result) }
+{
+    *v = clear(*v);
+    let rest = writes::begin_in_place(s, v, ch, swno, bytes);
+    *v = preset_watchdog(*s, *v);
+    rest
 }
 
 // The two bits are those after the effect.

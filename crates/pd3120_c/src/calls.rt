@@ -3,14 +3,26 @@
 ghost use Rattle.std.specs.Prelude.{◌≡◌};
 ghost use Rattle.model.specs.Errors.{data_error_of, general_error_of};
 ghost use Rattle.errors.specs.Words.{words_of};
-ghost use Rattle.writes.specs.Begun.{data_by};
-ghost use Rattle.pd3120_c.specs.Codes.{packed, SampleLeft, ReadLeft, WriteLeft, each_left, LookedUpLeft, MinuteLeft, WindowsLeft, PoweredUp, Stored};
+ghost use Rattle.writes.specs.Begun.{data_by, each_written};
+ghost use Rattle.registers.specs.Places.{placed};
+ghost use Rattle.pd3120_c.specs.Codes.{packed, SampleLeft, ReadLeft, WriteLeft, LookedUpLeft, MinuteLeft, WindowsLeft, PoweredUp, Stored};
 
-use crate::{ChannelDone, ReadDone, SharedDone, WriteBegun, codes};
+use crate::{ChannelDone, ReadDone, SharedDone, codes};
 use errors::words;
 use errors::words::Words;
 use model::{Channel, DataChannel, Module, Service, Shared};
 use pd3120::{lookups, opening, replies, samples};
+use registers::Place;
+
+// What is left of a write (`WriteBegun`) when the parts that it changes first are put back.
+#[derive(Clone, Copy)]
+pub struct Rest {
+    pub count: usize,
+    pub number: u8,
+    pub of_data: bool,
+    pub place: Place,
+    pub word: u16,
+}
 
 pub fn power_up(m: &mut Module, img: &[u8]) -> u32
     ensures { PoweredUp img.now m.new result }
@@ -56,47 +68,50 @@ pub fn read(
     }
 }
 
-pub fn begin_write(s: Shared, v: Service, ch: Channel, swno: u16, bytes: &[u8]) -> WriteBegun
-    ensures { WriteLeft s v ch swno bytes.now result }
+#[inline(never)]
+pub fn begin_write(
+    s: &mut Shared,
+    v: &mut Service,
+    ch: &mut Channel,
+    swno: u16,
+    bytes: &[u8],
+) -> Rest
+    ensures { WriteLeft s.old v.old ch.old swno bytes.now (record { shared = s.new; service = v.new; channel = ch.new; count = result.count; number = result.number; of_data = result.of_data; place = result.place; word = result.word }) }
 {
-    let begun = pd3120::begin_write(s, v, ch, swno, bytes);
-    let shared = begun.shared;
-    let service = begun.service;
-    let channel = begun.channel;
-    let reply = begun.reply;
-    let place = begun.place;
-    WriteBegun {
-        shared: shared,
-        service: service,
-        channel: channel,
-        count: begun.count,
+    let rest = pd3120::begin_write_in_place(s, v, ch, swno, bytes);
+    let reply = rest.reply;
+    let place = rest.place;
+    Rest {
+        count: rest.count,
         number: replies::number(reply),
-        of_data: begun.of_data,
+        of_data: rest.of_data,
         place: place,
-        word: begun.word,
+        word: rest.word,
     }
 }
 
 // s is the shared record before the write.
-pub fn write_data(s: Shared, d: DataChannel, swno: u16, bytes: &[u8]) -> DataChannel
-    ensures { result ≡ data_by s swno bytes.now d }
+#[inline(never)]
+pub fn write_data(s: Shared, d: &mut DataChannel, swno: u16, bytes: &[u8])
+    ensures { d.new ≡ data_by s swno bytes.now d.old }
 {
-    writes::data_after(s, d, swno, bytes)
+    *d = writes::data_after(s, *d, swno, bytes);
 }
 
-pub fn write_each(b: WriteBegun, k: usize, ch: Channel) -> Channel
-    ensures { result ≡ each_left b k ch }
+#[inline(never)]
+pub fn write_each(place: Place, word: u16, k: usize, ch: &mut Channel)
+    ensures { ch.new ≡ each_written (placed place) word k ch.old }
 {
-    let place = b.place;
-    writes::each(place, b.word, k, ch)
+    *ch = writes::each(place, word, k, *ch);
 }
 
 // The code of a write's answer: its length is 0, and its two bits are those of the module that it
 // leaves.
-pub fn finish_write(m: Module, number: u8) -> u32
-    ensures { result ≡ packed number 0 (data_error_of m) (general_error_of m) }
+#[inline(never)]
+pub fn finish_write(m: &Module, number: u8) -> u32
+    ensures { result ≡ packed number 0 (data_error_of m.now) (general_error_of m.now) }
 {
-    let bits = pd3120::error_bits(m);
+    let bits = pd3120::error_bits(*m);
     codes::code(number, 0, bits.data_error, bits.general_error)
 }
 

@@ -94,19 +94,18 @@ pub extern "C" fn pd3120_write(m: &mut Module, swno: u16, bytes: &[u8]) -> u32
     ensures { Left (step m.old (write swno bytes.now)) m.new result }
 {
     let at = registers::wire_slot(swno);
-    let begun = calls::begin_write(m.shared, m.service, m.channels[at], swno, bytes);
+    let before = m.shared;
+    let ch = &mut m.channels[at];
+    let begun = calls::begin_write(&mut m.shared, &mut m.service, ch, swno, bytes);
     if begun.of_data {
-        m.data_channel = calls::write_data(m.shared, m.data_channel, swno, bytes);
+        calls::write_data(before, &mut m.data_channel, swno, bytes);
     }
-    m.shared = begun.shared;
-    m.service = begun.service;
-    m.channels[at] = begun.channel;
     let mut k = 0;
     while k < begun.count {
-        m.channels[k] = calls::write_each(begun, k, m.channels[k]);
+        calls::write_each(begun.place, begun.word, k, &mut m.channels[k]);
         k += 1;
     }
-    calls::finish_write(*m, begun.number)
+    calls::finish_write(m, begun.number)
 }
 
 // The level first, then the current.

@@ -20,6 +20,7 @@ use Rattle.model.specs.Writes.{shared_written, errors_written, every_written, da
 use Rattle.model.specs.Questions.{write_reply}
 use Rattle.registers.specs.Places.{placed, slot_of}
 use Rattle.writes.specs.declared.Begun.{Begun}
+use Rattle.writes.specs.declared.Rest.{Rest}
 use Rattle.writes.specs.Accepted.{write_of}
 
 -- ---- the first step of an accepted write, by the place of its register
@@ -107,6 +108,11 @@ first_each f n cs = each f 0 (take n cs) ++ drop n cs
 abbrev pub whole_of : Begun → ℕ → DataChannel → Module → Module
 whole_of b i d m =
     module_of b.shared b.service (first_each (each_written (placed b.place) b.word) b.count (set m.channels i b.channel)) d
+
+-- the first step where its records and its channel were changed in their places
+abbrev pub begun_with : Shared → Service → Channel → Rest → Begun
+begun_with s v ch r =
+    record { reply = r.reply; shared = s; service = v; channel = ch; count = r.count; of_data = r.of_data; place = r.place; word = r.word }
 
 -- r is what a write of bs to SWNo n begins with: in every box of sixteen channels that has these parts, it ends as the write of the whole box does; and where
 -- it does not come to the data channel, that stays

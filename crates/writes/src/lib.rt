@@ -8,7 +8,7 @@ ghost use Rattle.std.specs.Prelude.{◌≡◌, ◌≤◌};
 ghost use Rattle.registers.specs.Places.{placed};
 ghost use Rattle.writes.specs.Accepted.{Accepted, write_of};
 ghost use Rattle.writes.specs.Begun.{shared_after, service_after, channel_after, data_after, data_by, count_of, of_data_of, written_word, each_written};
-ghost use Rattle.writes.specs.Begun.{first_each, BegunBy};
+ghost use Rattle.writes.specs.Begun.{first_each, begun_with, BegunBy};
 
 mod common;
 mod data;
@@ -36,6 +36,16 @@ pub struct Begun {
     pub shared: Shared,
     pub service: Service,
     pub channel: Channel,
+    pub count: usize,
+    pub of_data: bool,
+    pub place: Place,
+    pub word: u16,
+}
+
+// The same without what was changed where it stands: the records and the SWNo's own channel.
+#[derive(Clone, Copy)]
+pub struct Rest {
+    pub reply: Reply,
     pub count: usize,
     pub of_data: bool,
     pub place: Place,
@@ -135,24 +145,51 @@ fn word_of(p: Place, b: &[u8]) -> u16
 pub fn begin(s: Shared, v: Service, ch: Channel, swno: u16, b: &[u8]) -> Begun
     ensures { BegunBy s v ch swno b.now result }
 {
+    let mut shared = s;
+    let mut service = v;
+    let mut channel = ch;
+    let rest = begin_in_place(&mut shared, &mut service, &mut channel, swno, b);
+    let place = rest.place;
+    Begun {
+        reply: rest.reply,
+        shared: shared,
+        service: service,
+        channel: channel,
+        count: rest.count,
+        of_data: rest.of_data,
+        place: place,
+        word: rest.word,
+    }
+}
+
+// The same for a caller that lends its records and its channel: copies of them would deepen its
+// stack.
+pub fn begin_in_place(
+    s: &mut Shared,
+    v: &mut Service,
+    ch: &mut Channel,
+    swno: u16,
+    b: &[u8],
+) -> Rest
+    ensures { BegunBy s.old v.old ch.old swno b.now (begun_with s.new v.new ch.new result) }
+{
     let p = registers::place_of(swno);
     let reply = questions::write_reply(s.write_enable, swno, p, b);
     match reply {
-        Reply::Done(_) => Begun {
+        Reply::Done(_) => {
+            *ch = channel_after(p, *s, b, *ch);
+            *v = service_after(p, *v);
+            *s = shared_after(p, b, *s);
+            Rest {
+                reply: reply,
+                count: count_of(p),
+                of_data: of_data(p),
+                place: p,
+                word: word_of(p, b),
+            }
+        }
+        Reply::Refused(_) => Rest {
             reply: reply,
-            shared: shared_after(p, b, s),
-            service: service_after(p, v),
-            channel: channel_after(p, s, b, ch),
-            count: count_of(p),
-            of_data: of_data(p),
-            place: p,
-            word: word_of(p, b),
-        },
-        Reply::Refused(_) => Begun {
-            reply: reply,
-            shared: s,
-            service: v,
-            channel: ch,
             count: 0,
             of_data: false,
             place: p,

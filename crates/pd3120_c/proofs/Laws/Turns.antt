@@ -4,11 +4,13 @@ use mathlib.Core.Bool.{Bool, true, false, cond}
 use mathlib.Core.List.{List, [], ◌∷◌, map}
 use Prim.Native.Nat.{ℕ, suc, ◌/◌, ◌<◌, ◌≤◌}
 use native.Mathlib.Omega.{arith}
-use lib.ListN.{length, length-map, get_or, set}
+use lib.ListN.{length, length-map, length-set, get_or, set}
 use Rattle.model.specs.declared.Channel.{Channel}
 use Rattle.model.specs.declared.DataChannel.{DataChannel}
 use Rattle.model.specs.declared.Module.{Module}
-use Rattle.model.specs.State.{nothing, with_channels, with_data}
+use Rattle.model.specs.declared.Service.{Service}
+use Rattle.model.specs.declared.Shared.{Shared}
+use Rattle.model.specs.State.{nothing, with_channels}
 use Rattle.model.specs.Errors.{data_error_of, general_error_of}
 use Rattle.model.specs.Calls.{write, step}
 use Rattle.model.specs.Tick.{save_due, saved}
@@ -21,6 +23,7 @@ use Rattle.ticks.proofs.Whole.{whole}
 use Rattle.writes.specs.Begun.{data_by}
 use Rattle.writes.proofs.Laws.Begun.{first_done}
 use Rattle.pd3120_c.specs.declared.WriteBegun.{WriteBegun}
+use Rattle.pd3120_c.specs.declared.calls.Rest.{Rest}
 use Rattle.pd3120_c.specs.Codes.{packed, Left, Ticked, WriteLeft, each_left, write_left}
 
 -- such a loop leaves as many
@@ -154,22 +157,29 @@ tick_left m b d k1 k2 m1 m2 l e f z1 e1 z2 e2 =
 
 -- ---- a write
 -- the module that it leaves
-abbrev written : WriteBegun → List Channel → DataChannel → Module
+abbrev pub written : WriteBegun → List Channel → DataChannel → Module
 written b cs d = record { shared = b.shared; service = b.service; channels = cs; data_channel = d }
 
--- m1 is the box where the data channel is written, which another write leaves; m' that at the end of the loop, which is at place k
-pub write_ends : (m : Module) (n : ℕ) (bs : List ℕ) (i : ℕ) (b : WriteBegun) (m1 : Module) (k : ℕ) (m' : Module) (code : ℕ) → length m.channels ≡ 16
+-- its beginning, with the parts that it has put back
+abbrev pub begun_with : Shared → Service → Channel → Rest → WriteBegun
+begun_with s v ch r =
+    record { shared = s; service = v; channel = ch; count = r.count; number = r.number; of_data = r.of_data; place = r.place; word = r.word }
+
+-- m1 is the box where the first parts are put back and the data channel is written; m' that at the end of the loop, which is at place k
+pub write_ends : (m : Module) (n : ℕ) (bs : List ℕ) (i : ℕ) (b : WriteBegun) (m1 : Module) (k : ℕ) (m' : Module) (code : ℕ) → length m'.channels ≡ 16
     → i ≡ slot_of (n / 16) → WriteLeft m.shared m.service (get_or m.channels i nothing) n bs b
-    → m1 ≡ with_data (data_by m.shared n bs m.data_channel) m → k ≤ b.count → b.count ≤ k
-    → m' ≡ written b (done_up (each_left b) k (set m1.channels i b.channel)) m1.data_channel
+    → m1 ≡ written b (set m.channels i b.channel) (data_by m.shared n bs m.data_channel) → k ≤ b.count → b.count ≤ k
+    → m' ≡ with_channels (done_up (each_left b) k m1.channels) m1
     → code ≡ packed b.number 0 (data_error_of m') (general_error_of m') → Left (step m (write n bs)) m' code
 write_ends m n bs i b m1 k m' code l p h t u v g e =
+    let long : length m.channels ≡ 16 = sym (ap (λ (x : Module). length x.channels) t ∙ length-set m.channels i b.channel)
+    ∙ sym (as_long (below k) (each_left b) m1 m' g) ∙ l in
     let own = ap (λ (j : ℕ). get_or m.channels j nothing) (sym p) in
-    let w = h.2 m (record { shared_is = refl; service_is = refl; sixteen = l; channel_is = own }) in
+    let w = h.2 m (record { shared_is = refl; service_is = refl; sixteen = long; channel_is = own }) in
     let d = data_by m.shared n bs m.data_channel in
     let cs = set m.channels i b.channel in
     let at : k ≡ b.count = omega arith in
-    let full = g ∙ ap (λ (x : Module). written b (done_up (each_left b) k (set x.channels i b.channel)) x.data_channel) t
+    let full = g ∙ ap (λ (x : Module). with_channels (done_up (each_left b) k x.channels) x) t
     ∙ ap (λ (j : ℕ). written b (done_up (each_left b) j cs) d) at ∙ ap (λ (ds : List Channel). written b ds d) (first_done (each_left b) b.count cs)
     ∙ ap (λ (j : ℕ). write_left b j d m) p in
     (full ∙ w.0, e ∙ ap (λ (x : Module). packed b.number 0 (data_error_of x) (general_error_of x)) full ∙ w.1)

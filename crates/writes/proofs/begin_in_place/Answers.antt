@@ -1,6 +1,6 @@
 use Rattle.writes.proofs.Laws.Accepted.{done}
 use Rattle.writes.proofs.Laws.Begun.{begun-done, begun-refused}
-use Rattle.writes.proofs.begin.Goals as goal
+use Rattle.writes.proofs.begin_in_place.Goals as goal
 
 pub shared_after-requires : goal.shared_after-requires
 shared_after-requires c = done _ _ _ _ _ _ c.write_reply-reply.ensures c.in-Done.is
@@ -17,7 +17,7 @@ returns-in-Done c =
     let w = t.write_reply-reply in
     let p = t.place_of-p in
     let a = t.args in
-    begun-done a.s a.v a.ch a.swno a.b.now p.result w.result p.ensures w.ensures _ c.in-Done.is _ _ _ _ _ _
+    begun-done a.s.now a.v.now a.ch.now a.swno a.b.now p.result w.result p.ensures w.ensures _ c.in-Done.is _ _ _ _ _ _
     c.shared_after.ensures c.service_after.ensures
     c.channel_after.ensures c.count_of.ensures c.of_data.ensures c.word_of.ensures
 
@@ -26,4 +26,4 @@ returns-in-Refused c =
     let w = c.write_reply-reply in
     let p = c.place_of-p in
     let a = c.args in
-    begun-refused a.s a.v a.ch a.swno a.b.now p.result w.result p.ensures w.ensures _ c.in-Refused.is
+    begun-refused a.s.now a.v.now a.ch.now a.swno a.b.now p.result w.result p.ensures w.ensures _ c.in-Refused.is
