@@ -20,14 +20,14 @@ digits_step : (i k rest g : ℕ) (out : List ℕ) → 0 < i → i ≤ k → k �
     → last_digits (i - 1) (rest / 10) ++ slice (i - 1) k (set out (i - 1) g) ≡ last_digits i rest ++ slice i k out
 digits_step zero k rest g out some h room e = absurd (not-suc-le-zero some)
 digits_step (suc j) k rest g out some h room e =
-    let todo = last_digits j (rest / 10) in
+    let before = last_digits j (rest / 10) in
     let done = slice (suc j) k out in
     let within : j < length (take k out) = subst (λ (n : ℕ). j < n) (sym (length-take-le k out room)) h in
     ap (λ (m : ℕ). last_digits m (rest / 10) ++ slice m k (set out m g)) (sub-one (suc j))
-    ∙ ap (λ (l : List ℕ). todo ++ drop j l) (take-set-lt k out j g h)
-    ∙ ap (λ (l : List ℕ). todo ++ l) (drop-set (take k out) j g within)
-    ∙ ap (λ (x : ℕ). todo ++ x ∷ done) e
-    ∙ sym (append_snoc todo (48 + rest % 10) done)
+    ∙ ap (λ (l : List ℕ). before ++ drop j l) (take-set-lt k out j g h)
+    ∙ ap (λ (l : List ℕ). before ++ l) (drop-set (take k out) j g within)
+    ∙ ap (λ (x : ℕ). before ++ x ∷ done) e
+    ∙ sym (append_snoc before (48 + rest % 10) done)
 
 pub loop-i-init : goal.loop-i-init
 loop-i-init c =
