@@ -22,7 +22,7 @@ fn refuse(m: Module) -> Reading
 {
     Reading {
         after: m,
-        number: replies::number(Reply::Refused(Refusal::NoChannel)),
+        number: replies::number(Err(Refusal::NoChannel)),
         counter: 0,
     }
 }

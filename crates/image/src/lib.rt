@@ -25,7 +25,7 @@ pub fn power_up_reply(img: &[u8]) -> Reply
     ensures { result ≡ power_up_reply img.now }
 {
     if !checks::size_right(img) {
-        return Reply::Refused(Refusal::ImageLength);
+        return Err(Refusal::ImageLength);
     }
     let counts = checks::counts_right(img);
     let sum = checks::sum_right(img);
@@ -38,23 +38,23 @@ fn in_order(counts: bool, sum: bool, values: bool) -> Reply
     ensures { result ≡ sized_reply counts sum values }
 {
     if !counts {
-        return Reply::Refused(Refusal::ImageCounts);
+        return Err(Refusal::ImageCounts);
     }
     if !sum {
-        return Reply::Refused(Refusal::ImageSum);
+        return Err(Refusal::ImageSum);
     }
     if !values {
-        return Reply::Refused(Refusal::ImageValues);
+        return Err(Refusal::ImageValues);
     }
-    Reply::Done(0)
+    Ok(0)
 }
 
 fn is_done(r: Reply) -> bool
     ensures { result ≡ accepted r }
 {
     match r {
-        Reply::Done(_) => true,
-        Reply::Refused(_) => false,
+        Ok(_) => true,
+        Err(_) => false,
     }
 }
 
@@ -92,9 +92,9 @@ pub fn store(m: Module, buf: &mut [u8]) -> Reply
     ensures buffer { buf.new ≡ stored m buf.old }
 {
     if buf.len() < sizes::IMAGE {
-        return Reply::Refused(Refusal::NoRoom);
+        return Err(Refusal::NoRoom);
     }
     encode::put_body(m, buf);
     encode::put_sum(buf);
-    Reply::Done(sizes::IMAGE)
+    Ok(sizes::IMAGE)
 }

@@ -1,6 +1,7 @@
 -- The facts of specs/Facts.antt about sizes and wire calls, by cases of the registers; those about one channel are in
 -- Facts/Steps. Assumes nothing.
 pub mod Steps
+use Rattle.std.specs.Prelude.{Ok, Err}
 use mathlib.Core.Path.{◌≡◌, refl, ap, ◌∙◌}
 use mathlib.Core.Bool.{Bool, false}
 use mathlib.Core.List.{List}
@@ -11,12 +12,11 @@ use Rattle.numbers.specs.Reals as Reals
 use Rattle.model.specs.declared.Channel.{Channel}
 use Rattle.model.specs.declared.Service.{Service}
 use Rattle.model.specs.declared.Module.{Module}
-use Rattle.model.specs.declared.Reply.{Reply}
+use Rattle.model.specs.Questions.{Reply}
 use Rattle.model.specs.declared.ServiceRegister.{ServiceRegister}
 use Rattle.model.specs.declared.DigitalRegister.{DigitalRegister}
 use Rattle.model.specs.declared.CommonRegister.{CommonRegister}
 use Rattle.model.specs.declared.DataRegister.{DataRegister}
-use Rattle.model.specs.declared.Reply.TheVariants.{Done, Refused}
 use Rattle.model.specs.declared.ServiceRegister.TheVariants.{Highest, Reset, FreeRunTimer, WDTimer, ModuleConfig, WDPreset, WriteEnable, CommonError}
 use Rattle.model.specs.declared.DigitalRegister.TheVariants.{FlagReg, OutTimer, Counter, OutCurrent, OperatingTime, UserBytes, FBTimer, FBPreset}
 use Rattle.model.specs.declared.DigitalRegister.TheVariants.{OutPreset, ChConfig, MinCurrent, MaxCurrent, UserReals, Maintenance, ChError}
@@ -126,8 +126,8 @@ unfolding step watchdog_preset cleared
 cleared_by_write m n bs = go (Questions.write_reply (write_enable_of m.shared) n (place n) bs)
   where
     go : (r : Reply) → (write_leaves r (place n) bs (cleared m)).service.act.wd_run_out ≡ false
-    go (Done q) = written-clear (place n) bs (cleared m) refl
-    go (Refused q) = refl
+    go (Ok q) = written-clear (place n) bs (cleared m) refl
+    go (Err q) = refl
 
 pub wired : Wired
 unfolding Reads.after_read Writes.written Writes.every_written

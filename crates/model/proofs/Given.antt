@@ -1,5 +1,6 @@
 -- The claims of specs/Opening.antt on the windows of a channel along a list: they are a part of what the laws of Inputs say of each rule, and Stays of each call;
 -- and with the minute (Opening) they tell when the channel is off. Assumes nothing.
+use Rattle.std.specs.Prelude.{Ok, Err}
 use mathlib.Core.Path.{◌≡◌, refl, sym, ◌∙◌, ap, subst}
 use mathlib.Core.Bool.{Bool, true, false, not, ◌&&◌, ◌||◌, false≢true, and-true}
 use mathlib.Core.List.{List, [], ◌∷◌, ◌++◌, map}
@@ -15,8 +16,7 @@ use Rattle.model.specs.declared.Timetable.{Timetable}
 use Rattle.model.specs.declared.Clock.{Clock}
 use Rattle.model.specs.declared.Channel.{Channel}
 use Rattle.model.specs.declared.Module.{Module}
-use Rattle.model.specs.declared.Reply.{Reply}
-use Rattle.model.specs.declared.Reply.TheVariants.{Done, Refused}
+use Rattle.model.specs.Questions.{Reply}
 use Rattle.model.specs.declared.ServiceRegister.{ServiceRegister}
 use Rattle.model.specs.declared.DigitalRegister.{DigitalRegister}
 use Rattle.model.specs.declared.CommonRegister.{CommonRegister}
@@ -100,20 +100,20 @@ module _ (c : ℕ) (1≤c : 1 ≤ c) where
   At m = (channel_at m c).timetable
 
   write-stays : (m : Module) (r : Reply) (n : ℕ) (bs : List ℕ) → eqb n 0x3 && accepted r ≡ false → At (write_leaves r (place n) bs m) ≡ At m
-  write-stays m (Done q) n bs e =
+  write-stays m (Ok q) n bs e =
       written-stays hours c m 1≤c n bs
       (λ r i x. every-leaves r x (λ z. eqb-false _ _ (sym (and-true (eqb n 0x3)) ∙ e) (i ∙ z)))
       (λ r i x. write-leaves r (write_enable_of m.shared) bs x)
       (λ r i x. common-leaves r bs i x)
-  write-stays m (Refused q) n bs e = refl
+  write-stays m (Err q) n bs e = refl
 
   -- windows for another channel, or refused
   other-stays : (m : Module) (k : ℕ) (ws : List ℕ) (r : Reply) → (accepted r ≡ true → 1 ≤ k) → eqb k c && accepted r ≡ false
       → At (sample_leaves r k (with_timetable (timetable_of ws) (channel_at m k)) m) ≡ At m
-  other-stays m k ws (Done q) low e =
-      sample-stays hours c m (Done q) k (with_timetable (timetable_of ws))
+  other-stays m k ws (Ok q) low e =
+      sample-stays hours c m (Ok q) k (with_timetable (timetable_of ws))
       (λ i ch. absurd (eqb-false k c (sym (and-true (eqb k c)) ∙ e) (omega (arith, low refl, 1≤c, i))))
-  other-stays m k ws (Refused q) low e = refl
+  other-stays m k ws (Err q) low e = refl
 
   -- an accepted call is for a channel from 1
   channel-low : (k : ℕ) (ws : List ℕ) → accepted (Questions.windows_reply k ws) ≡ true → 1 ≤ k
@@ -121,7 +121,7 @@ module _ (c : ℕ) (1≤c : 1 ≤ c) where
   channel-low k ws a = go (Settings.is_digital k) refl a
     where
       rest : Reply
-      rest = Questions.asked (Questions.windows_questions k ws) (Done 0)
+      rest = Questions.asked (Questions.windows_questions k ws) (Ok 0)
 
       go : (b : Bool) → Settings.is_digital k ≡ b → accepted rest ≡ true → 1 ≤ k
       go true e p = (range k e).0
@@ -157,8 +157,8 @@ given-windows m c ws 1≤c l a = go (Questions.windows_reply c ws) a
     ch = with_timetable (timetable_of ws) (channel_at m c)
 
     go : (r : Reply) → number_of r ≡ 0 → (channel_at (sample_leaves r c ch m) c).timetable ≡ timetable_of ws
-    go (Done q) e = ap (λ (x : Channel). x.timetable) (get_or-set_same m.channels (c - 1) ch nothing (omega (arith, 1≤c, l)))
-    go (Refused q) e = not-zero q e
+    go (Ok q) e = ap (λ (x : Channel). x.timetable) (get_or-set_same m.channels (c - 1) ch nothing (omega (arith, 1≤c, l)))
+    go (Err q) e = not-zero q e
 
 emptied : (m : Module) (c : ℕ) → 1 ≤ c → c ≤ length m.channels → (channel_at (step m (write 0x3 (0xFF ∷ []))).box c).timetable ≡ no_windows
 unfolding step cleared watchdog_preset place Questions.write_reply Writes.written every_in
@@ -177,8 +177,8 @@ unfolding power_up
 none img c a b = go (Questions.power_up_reply img)
   where
     go : (r : Reply) → (channel_at (powered_up_as r img) c).timetable ≡ no_windows
-    go (Done n) = restored-none img c a b
-    go (Refused r) = restored-none _ c a b
+    go (Ok n) = restored-none img c a b
+    go (Err r) = restored-none _ c a b
 
 -- ---- closed by what was given: the first windows of those that stand are those that were given
 first-given : (ns : List ℕ) (j : ℕ) (zs : List ℕ) → length ns ≤ j → take (length ns) (map window_of (take j (ns ++ zs))) ≡ map window_of ns
@@ -218,8 +218,8 @@ unfolding Questions.windows_reply
 at_most c ws a = go (Questions.windows_reply c ws) refl a
   where
     go : (r : Reply) → Questions.windows_reply c ws ≡ r → number_of r ≡ 0 → length ws ≤ 8
-    go (Done q) e p = leb→le (length ws) 8 (asked-yes (Questions.windows_questions c ws) (Done 0) q e).1.0
-    go (Refused q) e p = not-zero q p
+    go (Ok q) e p = leb→le (length ws) 8 (asked-yes (Questions.windows_questions c ws) (Ok 0) q e).1.0
+    go (Err q) e p = not-zero q p
 
 pub closes-by-calls : Closes
 unfolding step run has_or_resets Tick.ticked Tick.tick_shared

@@ -13,6 +13,7 @@ pub mod Writes
 pub mod Boxes
 pub mod DataSteps
 pub mod Steps
+use Rattle.std.specs.Prelude.{Ok, Err}
 use mathlib.Core.Path.{◌≡◌, refl, sym, ap, ap₂, subst, ◌∙◌}
 use mathlib.Core.Logic.{◌≢◌}
 use mathlib.Core.Bool.{Bool, true, false, cond, ◌||◌}
@@ -27,8 +28,7 @@ use borrow.Author.Tests.{le-leb}
 use Rattle.integers.specs.Bytes.{number}
 use Rattle.numbers.specs.Reals.{real_from}
 use Rattle.model.specs.declared.Module.{Module}
-use Rattle.model.specs.declared.Reply.{Reply}
-use Rattle.model.specs.declared.Reply.TheVariants.{Done, Refused}
+use Rattle.model.specs.Questions.{Reply}
 use Rattle.model.specs.Image as Image
 use Rattle.model.specs.Image.{Entry, Setup, entry_of, setup_of, encode, decode}
 use Rattle.model.specs.Restored.{restored, powered_up, zero_setup}
@@ -63,21 +63,21 @@ started-setup s = λ i. record {
 }
 
 -- an image whose number is 0 has the reply of what is done
-done : (img : List ℕ) → (power_up_answer img).number ≡ 0 → power_up_reply img ≡ Done 0
+done : (img : List ℕ) → (power_up_answer img).number ≡ 0 → power_up_reply img ≡ Ok 0
 unfolding power_up_answer power_up_reply
 done img e = asked-done (power_up_questions img) 0 e
 
-number-done : (img : List ℕ) → power_up_reply img ≡ Done 0 → (power_up_answer img).number ≡ 0
+number-done : (img : List ℕ) → power_up_reply img ≡ Ok 0 → (power_up_answer img).number ≡ 0
 unfolding power_up_answer
 number-done img e = ap number_of e
 
 -- an accepted image powers up to the setup that it holds
-accepted-setup : (img : List ℕ) → power_up_reply img ≡ Done 0 → setup_of (power_up img) ≡ decode img
+accepted-setup : (img : List ℕ) → power_up_reply img ≡ Ok 0 → setup_of (power_up img) ≡ decode img
 unfolding power_up
 accepted-setup img e = rw e (started-setup (decode img))
 
 -- and to the box of that setup
-accepted-box : (img : List ℕ) → power_up_reply img ≡ Done 0 → power_up img ≡ powered_up (decode img)
+accepted-box : (img : List ℕ) → power_up_reply img ≡ Ok 0 → power_up img ≡ powered_up (decode img)
 unfolding power_up
 accepted-box img e = rw e
 
@@ -144,8 +144,8 @@ unfolding power_up power_up_answer
 refused img h = go (power_up_reply img) h
   where
     go : (r : Reply) → number_of r ≢ 0 → (setup_of (powered_up_as r img)).data_kept ≡ zero_data
-    go (Done n) h' = absurd (h' refl)
-    go (Refused r) h' = zeros
+    go (Ok n) h' = absurd (h' refl)
+    go (Err r) h' = zeros
 
 written : (m : Module) → Reached m → (lent : List ℕ) → 886 ≤ length lent →
     store_answer m lent
@@ -154,7 +154,7 @@ unfolding store_answer stored store_reply
 written m r lent h =
     let s = setup_of m in
     rw (le-leb 886 (length lent) h)
-    (ap (λ (k : ℕ). plain_answer (Done 886) (encode s ++ drop k lent)) (encode-long s (held m r)))
+    (ap (λ (k : ℕ). plain_answer (Ok 886) (encode s ++ drop k lent)) (encode-long s (held m r)))
 
 -- the first 886 bytes of the buffer
 stored_bytes : (m : Module) → Reached m → (lent : List ℕ) → 886 ≤ length lent → take 886 (store_answer m lent).buffer ≡ encode (setup_of m)

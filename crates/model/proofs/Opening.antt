@@ -1,5 +1,6 @@
 -- The claims of specs/Opening.antt but those of a channel's windows along a list. A window by the eight outcomes of its three tests; the minute along a list, which
 -- a call that neither sets it nor resets leaves, and which a tick takes from n ticks to n + 1; a closed channel by what it is driven as. Assumes nothing.
+use Rattle.std.specs.Prelude.{Ok, Err}
 use mathlib.Core.Path.{◌≡◌, refl, sym, ◌∙◌, ap, subst}
 use mathlib.Core.Bool.{Bool, true, false, cond, not, ◌&&◌, ◌||◌, false≢true}
 use mathlib.Core.List.{List, [], ◌∷◌}
@@ -13,8 +14,7 @@ use Rattle.model.specs.declared.Timetable.{Timetable}
 use Rattle.model.specs.declared.Channel.{Channel}
 use Rattle.model.specs.declared.Shared.{Shared}
 use Rattle.model.specs.declared.Module.{Module}
-use Rattle.model.specs.declared.Reply.{Reply}
-use Rattle.model.specs.declared.Reply.TheVariants.{Done, Refused}
+use Rattle.model.specs.Questions.{Reply}
 use Rattle.model.specs.declared.ServiceRegister.{ServiceRegister}
 use Rattle.model.specs.declared.ServiceRegister.TheVariants.{Highest, Reset, FreeRunTimer, WDTimer, ModuleConfig, WDPreset, WriteEnable, CommonError}
 use Rattle.model.specs.State.{in_flag_of, out_flag_of, channel_at, write_enable_of, wd_timer_of, with_clock, with_shared}
@@ -101,13 +101,13 @@ module _ (P : ℕ → Clock → Type 0) (moves : (n : ℕ) (k : Clock) → P n k
   Of m = P n m.shared.clock
 
   sampled-clock : (r : Reply) (k : ℕ) (ch : Channel) (m : Module) → Of m → Of (sample_leaves r k ch m)
-  sampled-clock (Done i) k ch m h = h
-  sampled-clock (Refused q) k ch m h = h
+  sampled-clock (Ok i) k ch m h = h
+  sampled-clock (Err q) k ch m h = h
 
   read-clock : (r : Reply) (i : ℕ) (m : Module) → Of m → Of (read_leaves r (place i) m)
   unfolding Reads.after_read
-  read-clock (Done j) i m h = place-cases (λ p. Of (Reads.after_read p m)) i h (λ e r q. h) (λ e r q. h) (λ e r q. h) (λ l₁ l₂ r q. h)
-  read-clock (Refused q) i m h = h
+  read-clock (Ok j) i m h = place-cases (λ p. Of (Reads.after_read p m)) i h (λ e r q. h) (λ e r q. h) (λ e r q. h) (λ l₁ l₂ r q. h)
+  read-clock (Err q) i m h = h
 
   shared-clock : (r : ServiceRegister) (bs : List ℕ) (s : Shared) → ((service_row r).number ≡ 3 → P n unset_clock) → P n s.clock
       → P n (Writes.shared_written r bs s).clock
@@ -123,15 +123,15 @@ module _ (P : ℕ → Clock → Type 0) (moves : (n : ℕ) (k : Clock) → P n k
 
   written-clock : (r : Reply) (i : ℕ) (bs : List ℕ) (m : Module) → (eqb i 0x3 && accepted r ≡ true → P n unset_clock) → Of m → Of (write_leaves r (place i) bs m)
   unfolding Writes.written
-  written-clock (Done j) i bs m u h =
+  written-clock (Ok j) i bs m u h =
       place-cases (λ p. Of (Writes.written p bs m)) i h
       (λ e r q. shared-clock r bs m.shared (λ z. let t : i ≡ 3 = omega (arith, e, q, z) in u (rw t)) h)
       (λ e r q. h) (λ e r q. h) (λ l₁ l₂ r q. h)
-  written-clock (Refused q) i bs m u h = h
+  written-clock (Err q) i bs m u h = h
 
   minute-clock : (r : Reply) (i : ℕ) (m : Module) → accepted r ≡ false → Of m → Of (minute_leaves r i m)
-  minute-clock (Done j) i m e h = absurd (false≢true (sym e))
-  minute-clock (Refused q) i m e h = h
+  minute-clock (Ok j) i m e h = absurd (false≢true (sym e))
+  minute-clock (Err q) i m e h = h
 
   step-clock : (m : Module) (x : Request) → sets_minute x ≡ false → (resets_by m (sort_of x) ≡ true → P n unset_clock) → Of m
       → P (counting (sort_of x) n) (step m x).box.shared.clock
@@ -196,8 +196,8 @@ unfolding power_up Restored.powered_up
 unset-start img = go (Questions.power_up_reply img)
   where
     go : (r : Reply) → Unset 0 (powered_up_as r img).shared.clock
-    go (Done n) = refl
-    go (Refused r) = refl
+    go (Ok n) = refl
+    go (Err r) = refl
 
 reset : (m : Module) → (step m (write 0x3 (0xFF ∷ []))).box.shared.clock ≡ unset_clock
 unfolding step cleared watchdog_preset place Questions.write_reply Writes.written Writes.shared_written

@@ -1,5 +1,6 @@
 -- The number of a call is that of the first question answered no along its list of questions (`first-no`), whatever the list; and where a reply is a refusal, the
 -- call computes to what the claim states. Assumes nothing.
+use Rattle.std.specs.Prelude.{Ok, Err}
 use mathlib.Core.Path.{◌≡◌, refl, sym, ◌∙◌, ap}
 use mathlib.Core.Bool.{Bool, true, false, cond, ◌&&◌}
 use mathlib.Core.List.{List, [], ◌∷◌, ◌++◌, append-nil}
@@ -13,8 +14,7 @@ use Rattle.numbers.specs.Reals.{real_from, real_bytes}
 use Rattle.numbers.specs.Written.{from, up_to}
 use Rattle.model.specs.declared.Channel.{Channel}
 use Rattle.model.specs.declared.Module.{Module}
-use Rattle.model.specs.declared.Reply.{Reply}
-use Rattle.model.specs.declared.Reply.TheVariants.{Done, Refused}
+use Rattle.model.specs.Questions.{Reply}
 use Rattle.model.specs.State.{write_enable_of}
 use Rattle.model.specs.Registers.{Place, place}
 use Rattle.model.specs.Image as Image
@@ -111,11 +111,11 @@ abbrev by_number : List Question → List Asked
 by_number [] = []
 by_number (q ∷ qs) = record { number = refusal_number q.refusal; yes = q.yes } ∷ by_number qs
 
-number_is : (qs : List Question) (n : ℕ) → number_of (asked qs (Done n)) ≡ first-no (by_number qs)
+number_is : (qs : List Question) (n : ℕ) → number_of (asked qs (Ok n)) ≡ first-no (by_number qs)
 number_is [] n = refl
 number_is (q ∷ qs) n = go q.yes (number_is qs n)
   where
-    go : (b : Bool) → number_of (asked qs (Done n)) ≡ first-no (by_number qs) → number_of (cond b (asked qs (Done n)) (Refused q.refusal)) ≡ cond b
+    go : (b : Bool) → number_of (asked qs (Ok n)) ≡ first-no (by_number qs) → number_of (cond b (asked qs (Ok n)) (Err q.refusal)) ≡ cond b
         (first-no (by_number qs)) (refusal_number q.refusal)
     go true later = later
     go false later = refl
@@ -137,25 +137,25 @@ decided =
 -- ---- what a refused call leaves
 read-refused : (r : Reply) (p : Place) (lent : List ℕ) (m : Module) (n : ℕ) → number_of r ≡ suc n → then_preset (read_as r p lent (cleared m)) ≡ wire_refused m
     (suc n) lent
-read-refused (Done k) p lent m n h = none h
-read-refused (Refused q) p lent m n h = rw h
+read-refused (Ok k) p lent m n h = none h
+read-refused (Err q) p lent m n h = rw h
 
 write-refused : (r : Reply) (p : Place) (bs : List ℕ) (m : Module) (n : ℕ) → number_of r ≡ suc n → then_preset (written_as_of r p bs (cleared m)) ≡ wire_refused m
     (suc n) []
-write-refused (Done k) p bs m n h = none h
-write-refused (Refused q) p bs m n h = rw h
+write-refused (Ok k) p bs m n h = none h
+write-refused (Err q) p bs m n h = rw h
 
 sample-refused : (r : Reply) (k : ℕ) (ch : Channel) (m : Module) (n : ℕ) → number_of r ≡ suc n → sampled_as r k ch m ≡ plainly_refused m (suc n)
-sample-refused (Done i) k ch m n h = none h
-sample-refused (Refused q) k ch m n h = rw h
+sample-refused (Ok i) k ch m n h = none h
+sample-refused (Err q) k ch m n h = rw h
 
 look-up-refused : (r : Reply) (i : ℕ) (x : Float) (m : Module) (n : ℕ) → number_of r ≡ suc n → looked_up_as r i x m ≡ plainly_refused m (suc n)
-look-up-refused (Done k) i x m n h = none h
-look-up-refused (Refused q) i x m n h = rw h
+look-up-refused (Ok k) i x m n h = none h
+look-up-refused (Err q) i x m n h = rw h
 
 minute-refused : (r : Reply) (i : ℕ) (m : Module) (n : ℕ) → number_of r ≡ suc n → minute_as r i m ≡ plainly_refused m (suc n)
-minute-refused (Done k) i m n h = none h
-minute-refused (Refused q) i m n h = rw h
+minute-refused (Ok k) i m n h = none h
+minute-refused (Err q) i m n h = rw h
 
 unchanged : (m : Module) (x : Request) (n : ℕ) → (step m x).answer.number ≡ suc n → step m x ≡ refused_by (sort_of x) m (suc n)
 unfolding step
@@ -173,8 +173,8 @@ unfolding power_up power_up_answer
 start img n h = go (power_up_reply img) h
   where
     go : (r : Reply) → number_of r ≡ suc n → powered_up_as r img ≡ powered_up zero_setup
-    go (Done k) h = none h
-    go (Refused q) h = refl
+    go (Ok k) h = none h
+    go (Err q) h = refl
 
 store : (m : Module) (lent : List ℕ) (n : ℕ) → (store_answer m lent).number ≡ suc n →
     store_answer m lent ≡ record { number = suc n; length = 0; buffer = lent; data_error = false; general_error = false; real_bits = 0 }
@@ -183,8 +183,8 @@ store m lent n h = go (store_reply lent) h
   where
     go : (r : Reply) → number_of r ≡ suc n →
         plain_answer r (store_fills r lent m) ≡ record { number = suc n; length = 0; buffer = lent; data_error = false; general_error = false; real_bits = 0 }
-    go (Done k) h = none h
-    go (Refused q) h = rw h
+    go (Ok k) h = none h
+    go (Err q) h = rw h
 
 pub refusals : Refusals
 refusals = record { decided = decided; unchanged = unchanged; start = start; store = store }

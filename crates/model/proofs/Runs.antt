@@ -1,5 +1,6 @@
 -- The claim of specs/Runs.antt. What a call does to a channel's operating time is part of what the laws of Inputs say of each rule, and Stays of each call that
 -- leaves it; here it is said of ticks and of lists. Assumes nothing.
+use Rattle.std.specs.Prelude.{Ok, Err}
 use mathlib.Core.Path.{◌≡◌, refl, sym, ◌∙◌, ap, subst}
 use mathlib.Core.Bool.{Bool, true, false, cond, ◌&&◌, ◌||◌, and-true}
 use mathlib.Core.List.{List, [], ◌∷◌}
@@ -17,8 +18,7 @@ use Rattle.counts.proofs.Claims.{adds_up}
 use Rattle.model.specs.declared.Channel.{Channel}
 use Rattle.model.specs.declared.Config.{Config}
 use Rattle.model.specs.declared.Module.{Module}
-use Rattle.model.specs.declared.Reply.{Reply}
-use Rattle.model.specs.declared.Reply.TheVariants.{Done, Refused}
+use Rattle.model.specs.Questions.{Reply}
 use Rattle.model.specs.declared.ServiceRegister.{ServiceRegister}
 use Rattle.model.specs.declared.DigitalRegister.{DigitalRegister}
 use Rattle.model.specs.declared.CommonRegister.{CommonRegister}
@@ -105,13 +105,13 @@ module _ (c : ℕ) (1≤c : 1 ≤ c) (c≤16 : c ≤ 16) where
   -- an accepted write, but of c's OperatingTime and of SWNo 3
   write-time : (m : Module) (r : Reply) (n : ℕ) (bs : List ℕ) → (eqb n (c * 0x10 + 0x4) || eqb n 0x3) && accepted r ≡ false
       → time_of (write_leaves r (place n) bs m) c ≡ time_of m c
-  write-time m (Done q) n bs e =
+  write-time m (Ok q) n bs e =
       let (d, d₃) = neither (eqb n (c * 0x10 + 0x4)) (eqb n 0x3) (sym (and-true (eqb n (c * 0x10 + 0x4) || eqb n 0x3)) ∙ e) in
       written-stays time c m 1≤c n bs
       (λ r i x. every-leaves r x (λ z. eqb-false _ _ d₃ (i ∙ z)))
       (λ r i x. write-leaves r (write_enable_of m.shared) bs x (λ z. eqb-false _ _ d (i ∙ ap (λ (k : ℕ). c * 0x10 + k) z)))
       (λ r i x. common-leaves r bs i x)
-  write-time m (Refused q) n bs e = refl
+  write-time m (Err q) n bs e = refl
 
   -- a tick, which finds InFlag TRUE or FALSE
   ticked-time : (m : Module) → length m.channels ≡ 16
@@ -165,10 +165,10 @@ written m l c a b bs ok = go (Questions.write_reply (write_enable_of m.shared) n
     ch = Writes.digital_written OperatingTime m.shared bs (channel_at m c)
 
     go : (r : Reply) → Questions.number_of r ≡ 0 → time_of (write_leaves r (place n) bs (cleared m)) c ≡ operating_of (Writes.operating_from bs)
-    go (Done q) e =
+    go (Ok q) e =
         subst (λ (p : Place). time_of (Writes.written p bs (cleared m)) c ≡ operating_of (Writes.operating_from bs)) (sym (digital-place c a b 4 (omega arith)))
         (ap operating_time (get_or-set_same m.channels (c - 1) ch nothing (place_of c a b m l)) ∙ ap time (in-written OperatingTime m.shared bs (channel_at m c)))
-    go (Refused q) e = not-zero q e
+    go (Err q) e = not-zero q e
 
 reset : (m : Module) → length m.channels ≡ 16 → (c : ℕ) → 1 ≤ c → c ≤ 16 →
     time_of (step m (write 0x3 (0xFF ∷ []))).box c ≡ operating_of (channel_at m c).kept.operating
@@ -189,8 +189,8 @@ unfolding power_up
 powered_up_lem img c a b = go (Questions.power_up_reply img)
   where
     go : (r : Reply) → (time_of (powered_up_as r img) c).quarters ≡ 0
-    go (Done n) = restored-time img c a b
-    go (Refused r) = restored-time _ c a b
+    go (Ok n) = restored-time img c a b
+    go (Err r) = restored-time _ c a b
 
 pub runs : Runs
 runs = record { add_up = add_up; written = written; reset = reset; powered_up_lem = powered_up_lem }

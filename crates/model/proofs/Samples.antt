@@ -1,5 +1,6 @@
 -- A level puts InFlag and Counter (`level-puts`), and a current looks at neither and leaves both, so that the two can change places (`current-puts`). Assumes
 -- nothing.
+use Rattle.std.specs.Prelude.{Ok, Err}
 use mathlib.Core.Path.{◌≡◌, refl, sym, ◌∙◌, ap}
 use mathlib.Core.Bool.{Bool, true, false, cond, not, ◌&&◌, beq}
 use mathlib.Core.List.{List, ◌∷◌}
@@ -9,8 +10,7 @@ use lib.IntN.{ℤ}
 use Rattle.counts.specs.Counts.{counter_step}
 use Rattle.model.specs.declared.Channel.{Channel}
 use Rattle.model.specs.declared.Module.{Module}
-use Rattle.model.specs.declared.Reply.{Reply}
-use Rattle.model.specs.declared.Reply.TheVariants.{Done, Refused}
+use Rattle.model.specs.Questions.{Reply}
 use Rattle.model.specs.declared.Shared.{Shared}
 use Rattle.model.specs.State.{channel_at, put_channel, in_flag_of, out_flag_of, set_in_flag, set_out_flag, set_control, set_out_current, with_counter}
 use Rattle.model.specs.Settings.{simulates_input, silences_overload}
@@ -80,8 +80,8 @@ accepted m k b x e = go (sample_reply k x) e
     ch = take_current m.shared x (take_level b (channel_at m k))
 
     go : (r : Reply) → number_of r ≡ 0 → sample_leaves r k ch m ≡ put_channel k ch m
-    go (Done n) e = refl
-    go (Refused q) e = not-zero q e
+    go (Ok n) e = refl
+    go (Err q) e = not-zero q e
 
 struck_as_one : (c : ℕ) (ns : List ℕ) (k : ℕ) (b : Bool) (x : Float) (xs : List Request) → stranger c ns k ≡ true →
     struck c ns (sample k b x ∷ xs) ≡ struck c ns xs

@@ -1,11 +1,10 @@
 -- Document 01, Calls 1 to 8, with Questions 16 to 18 and Setup image 4, and document 02, Change 1, 3, Change 3, 2 to 4, and Change 6, 2, 3 and 5: what each call
 -- answers and leaves, for any box, call and buffer; a list of calls; power-up and storing. Definitions only.
-use Rattle.std.specs.Prelude.{Bool, false, List, [], ◌∷◌, ◌++◌, ℕ, length, drop, Float}
+use Rattle.std.specs.Prelude.{Bool, false, List, [], ◌∷◌, ◌++◌, ℕ, length, drop, Float, Ok, Err}
 use Rattle.model.specs.declared.Channel.{Channel}
 use Rattle.model.specs.declared.DataChannel.{DataChannel}
 use Rattle.model.specs.declared.Module.{Module}
-use Rattle.model.specs.declared.Reply.{Reply}
-use Rattle.model.specs.declared.Reply.TheVariants.{Done, Refused}
+use Rattle.model.specs.Questions.{Reply}
 use Rattle.model.specs.State.{wd_timer_of, wd_preset_of, write_enable_of, with_clock, service_of, data_channel_of, with_shared, with_service_record, with_timetable}
 use Rattle.model.specs.State.{channel_at, put_channel}
 use Rattle.model.specs.Hours.{clock_at, timetable_of}
@@ -97,12 +96,12 @@ overwritten bytes lent = bytes ++ drop (length bytes) lent
 
 -- what a read does to the box m after the clearing: the box that it leaves, and the lent buffer
 abbrev pub read_leaves : Reply → Place → Module → Module
-read_leaves (Done n) p m = after_read p m
-read_leaves (Refused r) p m = m
+read_leaves (Ok n) p m = after_read p m
+read_leaves (Err r) p m = m
 
 abbrev pub read_fills : Reply → Place → Module → List ℕ → List ℕ
-read_fills (Done n) p m lent = overwritten (bytes_read p m) lent
-read_fills (Refused r) p m lent = lent
+read_fills (Ok n) p m lent = overwritten (bytes_read p m) lent
+read_fills (Err r) p m lent = lent
 
 -- Calls 5: its two bits are those before the acknowledgement
 abbrev pub read_as : Reply → Place → List ℕ → Module → Stepped
@@ -110,8 +109,8 @@ read_as r p lent m = record { answer = wire_answer r (read_fills r p m lent) m; 
 
 -- the same of a write
 abbrev pub write_leaves : Reply → Place → List ℕ → Module → Module
-write_leaves (Done n) p bs m = written p bs m
-write_leaves (Refused r) p bs m = m
+write_leaves (Ok n) p bs m = written p bs m
+write_leaves (Err r) p bs m = m
 
 -- Calls 5: its two bits are those after its effect
 abbrev pub written_as_of : Reply → Place → List ℕ → Module → Stepped
@@ -119,24 +118,24 @@ written_as_of r p bs m = record { answer = wire_answer r [] (write_leaves r p bs
 
 -- ---- Calls 2: a sample for channel k, which makes ch of it; refused, it does neither of its two (Change 3, 3). Windows for channel k alike
 abbrev pub sample_leaves : Reply → ℕ → Channel → Module → Module
-sample_leaves (Done n) k ch m = put_channel k ch m
-sample_leaves (Refused r) k ch m = m
+sample_leaves (Ok n) k ch m = put_channel k ch m
+sample_leaves (Err r) k ch m = m
 
 abbrev pub sampled_as : Reply → ℕ → Channel → Module → Stepped
 sampled_as r k ch m = record { answer = plain_answer r []; box = sample_leaves r k ch m }
 
 -- ---- Change 1, 3: a lookup in the box m, which it leaves as it is; refused, its Real is 0
 abbrev pub looked_up_bits : Reply → ℕ → Float → DataChannel → ℕ
-looked_up_bits (Done n) k x d = level_bits k x d
-looked_up_bits (Refused r) k x d = 0
+looked_up_bits (Ok n) k x d = level_bits k x d
+looked_up_bits (Err r) k x d = 0
 
 abbrev pub looked_up_as : Reply → ℕ → Float → Module → Stepped
 looked_up_as r k x m = record { answer = answer_of r [] false false (looked_up_bits r k x (data_channel_of m)); box = m }
 
 -- ---- Change 6, 2: the minute set to n; refused, it stays as it was
 abbrev pub minute_leaves : Reply → ℕ → Module → Module
-minute_leaves (Done q) n m = with_shared (with_clock (clock_at n) m.shared) m
-minute_leaves (Refused r) n m = m
+minute_leaves (Ok q) n m = with_shared (with_clock (clock_at n) m.shared) m
+minute_leaves (Err r) n m = m
 
 abbrev pub minute_as : Reply → ℕ → Module → Stepped
 minute_as r n m = record { answer = plain_answer r []; box = minute_leaves r n m }
@@ -149,7 +148,7 @@ step m (sample k b x) = sampled_as (sample_reply k x) k (take_sample m.shared b 
 step m (look_up k x) = looked_up_as (look_up_reply k x) k x m
 step m (minute n) = minute_as (minute_reply n) n m
 step m (windows k ws) = sampled_as (windows_reply k ws) k (with_timetable (timetable_of ws) (channel_at m k)) m
-step m tick = record { answer = plain_answer (Done 0) []; box = ticked m }
+step m tick = record { answer = plain_answer (Ok 0) []; box = ticked m }
 
 -- demand 3: each call gets the box that the last one left
 unfoldable pub run : Module → List Request → Module
@@ -159,8 +158,8 @@ run m (x ∷ xs) = run (step m x).box xs
 -- ---- Calls 3: power-up and storing
 -- Setup image 2 and Questions 17: the box of an image
 abbrev pub powered_up_as : Reply → List ℕ → Module
-powered_up_as (Done n) img = powered_up (decode img)
-powered_up_as (Refused r) img = powered_up zero_setup
+powered_up_as (Ok n) img = powered_up (decode img)
+powered_up_as (Err r) img = powered_up zero_setup
 
 unfoldable pub power_up : List ℕ → Module
 power_up img = powered_up_as (power_up_reply img) img
@@ -170,8 +169,8 @@ power_up_answer img = plain_answer (power_up_reply img) []
 
 -- Setup image 4: the lent buffer with the kept values
 abbrev pub store_fills : Reply → List ℕ → Module → List ℕ
-store_fills (Done n) lent m = overwritten (encode (setup_of m)) lent
-store_fills (Refused r) lent m = lent
+store_fills (Ok n) lent m = overwritten (encode (setup_of m)) lent
+store_fills (Err r) lent m = lent
 
 unfoldable pub stored : Module → List ℕ → List ℕ
 stored m lent = store_fills (store_reply lent) lent m

@@ -1,15 +1,13 @@
 -- Document 01, Questions 1 to 15, and document 02, Change 1, 14, Change 3, 3, and Change 6, 6 and 7: each question, the first whose answer is no, and the number
 -- and values of every answer. Definitions only.
-use Rattle.std.specs.Prelude.{Bool, true, false, not, cond, ◌&&◌, ◌||◌, List, [], ◌∷◌, ℕ, eqb, leb, length, Float}
+use Rattle.std.specs.Prelude.{Bool, true, false, not, cond, ◌&&◌, ◌||◌, List, [], ◌∷◌, ℕ, eqb, leb, length, Float, Result, Ok, Err}
 use Rattle.std.specs.Float.Ieee.Scale.{finite}
 use Rattle.model.specs.declared.Access.{Access}
 use Rattle.model.specs.declared.Refusal.{Refusal}
-use Rattle.model.specs.declared.Reply.{Reply}
 use Rattle.model.specs.declared.Access.TheVariants.{ReadOnly, Writable, Protected}
 use Rattle.model.specs.declared.Refusal.TheVariants.{Beyond, Unlisted, NotWritable, WrongLength, BufferTooShort, NotEnabled, NotAllowed}
 use Rattle.model.specs.declared.Refusal.TheVariants.{NoChannel, NotFinite, ImageLength, ImageCounts, ImageSum, ImageValues, NoRoom, NoTable}
 use Rattle.model.specs.declared.Refusal.TheVariants.{NotMinute, TooManyWindows}
-use Rattle.model.specs.declared.Reply.TheVariants.{Done, Refused}
 use Rattle.model.specs.Hours.{is_minute, window_of}
 use Rattle.model.specs.Settings.{is_digital}
 use Rattle.model.specs.Registers.{Place, service, digital, common, data_channel, unlisted, access, size, highest_swno}
@@ -17,6 +15,10 @@ use Rattle.model.specs.Writes.{allowed}
 use Rattle.model.specs.Image.{size_right, counts_right, sum_right, values_allowed, image_size}
 
 -- ---- the number and the length of every answer
+-- what a call answers: done, with a length, or refused
+abbrev pub Reply : Type 0
+Reply = Result ℕ Refusal
+
 -- the question that each refusal stands for
 abbrev pub refusal_number : Refusal → ℕ
 refusal_number Beyond = 1
@@ -39,18 +41,18 @@ refusal_number TooManyWindows = 19
 
 -- Calls 5: 0 where the call is done
 abbrev pub number_of : Reply → ℕ
-number_of (Done n) = 0
-number_of (Refused r) = refusal_number r
+number_of (Ok n) = 0
+number_of (Err r) = refusal_number r
 
 -- Calls 5 and 8: 0 where it is refused
 abbrev pub length_of : Reply → ℕ
-length_of (Done n) = n
-length_of (Refused r) = 0
+length_of (Ok n) = n
+length_of (Err r) = 0
 
 -- whether a call is done
 abbrev pub accepted : Reply → Bool
-accepted (Done n) = true
-accepted (Refused r) = false
+accepted (Ok n) = true
+accepted (Err r) = false
 
 -- a question: whether its answer is yes, and the refusal where it is no
 pub record Question : Type 0 where
@@ -64,7 +66,7 @@ b else r = record { yes = b; refusal = r }
 -- the refusal of the first question whose answer is no, or else `done`
 abbrev pub asked : List Question → Reply → Reply
 asked [] done = done
-asked (q ∷ qs) done = cond q.yes (asked qs done) (Refused q.refusal)
+asked (q ∷ qs) done = cond q.yes (asked qs done) (Err q.refusal)
 
 -- ---- wire calls, on the SWNo and the place that it names
 abbrev pub question1 : ℕ → Bool
@@ -107,7 +109,7 @@ abbrev pub read_questions : ℕ → Place → List ℕ → List Question
 read_questions n p lent = (question1 n else Beyond) ∷ (question2 p else Unlisted) ∷ (question5 p lent else BufferTooShort) ∷ []
 
 unfoldable pub read_reply : ℕ → Place → List ℕ → Reply
-read_reply n p lent = asked (read_questions n p lent) (Done (size p))
+read_reply n p lent = asked (read_questions n p lent) (Ok (size p))
 
 abbrev pub write_questions : Bool → ℕ → Place → List ℕ → List Question
 write_questions enable n p bs =
@@ -115,7 +117,7 @@ write_questions enable n p bs =
     ∷ (question6 enable p else NotEnabled) ∷ (question7 p bs else NotAllowed) ∷ []
 
 unfoldable pub write_reply : Bool → ℕ → Place → List ℕ → Reply
-write_reply enable n p bs = asked (write_questions enable n p bs) (Done 0)
+write_reply enable n p bs = asked (write_questions enable n p bs) (Ok 0)
 
 -- ---- samples. Change 3, 3: 8 of the channel, then 9 of the current
 abbrev pub question8 : ℕ → Bool
@@ -128,7 +130,7 @@ abbrev pub sample_questions : ℕ → Float → List Question
 sample_questions k x = (question8 k else NoChannel) ∷ (question9 x else NotFinite) ∷ []
 
 unfoldable pub sample_reply : ℕ → Float → Reply
-sample_reply k x = asked (sample_questions k x) (Done 0)
+sample_reply k x = asked (sample_questions k x) (Ok 0)
 
 -- ---- lookups. Change 1, 14: 15 of the table's number, then 7 of X
 abbrev pub question15 : ℕ → Bool
@@ -138,7 +140,7 @@ abbrev pub look_up_questions : ℕ → Float → List Question
 look_up_questions k x = (question15 k else NoTable) ∷ (finite x else NotAllowed) ∷ []
 
 unfoldable pub look_up_reply : ℕ → Float → Reply
-look_up_reply k x = asked (look_up_questions k x) (Done 0)
+look_up_reply k x = asked (look_up_questions k x) (Ok 0)
 
 -- ---- opening hours. Change 6, 6 and 7: 18 of a minute, and of every start and end; for windows 8, 19, then 18
 abbrev pub question18 : ℕ → Bool
@@ -148,7 +150,7 @@ abbrev pub minute_questions : ℕ → List Question
 minute_questions n = (question18 n else NotMinute) ∷ []
 
 unfoldable pub minute_reply : ℕ → Reply
-minute_reply n = asked (minute_questions n) (Done 0)
+minute_reply n = asked (minute_questions n) (Ok 0)
 
 abbrev pub question19 : List ℕ → Bool
 question19 ws = leb (length ws) 8
@@ -161,7 +163,7 @@ abbrev pub windows_questions : ℕ → List ℕ → List Question
 windows_questions k ws = (question8 k else NoChannel) ∷ (question19 ws else TooManyWindows) ∷ (are_minutes ws else NotMinute) ∷ []
 
 unfoldable pub windows_reply : ℕ → List ℕ → Reply
-windows_reply k ws = asked (windows_questions k ws) (Done 0)
+windows_reply k ws = asked (windows_questions k ws) (Ok 0)
 
 -- ---- power-up, 10 to 13, and storing, 14
 abbrev pub power_up_questions : List ℕ → List Question
@@ -169,7 +171,7 @@ power_up_questions img =
     (size_right img else ImageLength) ∷ (counts_right img else ImageCounts) ∷ (sum_right img else ImageSum) ∷ (values_allowed img else ImageValues) ∷ []
 
 unfoldable pub power_up_reply : List ℕ → Reply
-power_up_reply img = asked (power_up_questions img) (Done 0)
+power_up_reply img = asked (power_up_questions img) (Ok 0)
 
 abbrev pub question14 : List ℕ → Bool
 question14 lent = leb image_size (length lent)
@@ -179,4 +181,4 @@ store_questions lent = (question14 lent else NoRoom) ∷ []
 
 -- Questions 15: the length of what is stored
 unfoldable pub store_reply : List ℕ → Reply
-store_reply lent = asked (store_questions lent) (Done image_size)
+store_reply lent = asked (store_questions lent) (Ok image_size)

@@ -1,10 +1,9 @@
 -- What the public functions answer, in the paper's numbers (`answer_of` of the model's Calls), beside the model's `step`, `power_up` and `stored`. Definitions only.
-use Rattle.std.specs.Prelude.{◌≡◌, Bool, false, ◌&&◌, List, [], ℕ, length, take}
+use Rattle.std.specs.Prelude.{◌≡◌, Bool, false, ◌&&◌, List, [], ℕ, length, take, Ok}
 use Rattle.model.specs.declared.Call.{Call}
 use Rattle.model.specs.declared.Call.TheVariants.{Read, Write, Sample, LookUp, Minute, Windows, Tick}
 use Rattle.model.specs.declared.Module.{Module}
-use Rattle.model.specs.declared.Reply.{Reply}
-use Rattle.model.specs.declared.Reply.TheVariants.{Done}
+use Rattle.model.specs.Questions.{Reply}
 use Rattle.model.specs.declared.Service.{Service}
 use Rattle.model.specs.declared.Shared.{Shared}
 use Rattle.model.specs.State.{channel_at}
@@ -39,7 +38,7 @@ look_up_of r m = record { answer = answer_of r.reply [] false false r.bits; box 
 
 -- of a tick, which always answers 0
 abbrev pub tick_of : Module → Stepped
-tick_of after = record { answer = answer_of (Done 0) [] false false 0; box = after }
+tick_of after = record { answer = answer_of (Ok 0) [] false false 0; box = after }
 
 -- ---- the clearing and the preset of a wire call
 -- r is the service record that f leaves of any box with the record v, and, where f looks at it, the shared record s

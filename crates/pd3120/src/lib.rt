@@ -366,7 +366,7 @@ pub fn call(m: Module, c: Call, written: &[u8], windows: &[u32], lent: &mut [u8]
         Call::Windows(channel) => plain(set_windows(m, channel, windows)),
         Call::Tick => plain(Sampled {
             after: tick(m),
-            reply: Reply::Done(0),
+            reply: Ok(0),
         }),
     }
 }

@@ -16,8 +16,8 @@ fn bits(reply: Reply, table: u8, x: f32, d: DataChannel) -> u32
     ensures { result ≡ looked_up_bits reply table x d }
 {
     match reply {
-        Reply::Done(_) => lookup::level_bits(table, x, d),
-        Reply::Refused(_) => 0,
+        Ok(_) => lookup::level_bits(table, x, d),
+        Err(_) => 0,
     }
 }
 

@@ -29,11 +29,11 @@ pub fn set_minute(s: Shared, minute: u16) -> MinuteSet
 {
     let reply = questions::opening::minute_reply(minute);
     match reply {
-        Reply::Done(_) => MinuteSet {
+        Ok(_) => MinuteSet {
             after: with_minute(s, minute),
             reply: reply,
         },
-        Reply::Refused(_) => MinuteSet {
+        Err(_) => MinuteSet {
             after: s,
             reply: reply,
         },
@@ -55,11 +55,11 @@ pub fn set_windows(ch: Channel, channel: u8, windows: &[u32]) -> Taken
 {
     let reply = questions::opening::windows_reply(channel, windows);
     match reply {
-        Reply::Done(_) => Taken {
+        Ok(_) => Taken {
             after: with_windows(ch, windows),
             reply: reply,
         },
-        Reply::Refused(_) => Taken {
+        Err(_) => Taken {
             after: ch,
             reply: reply,
         },

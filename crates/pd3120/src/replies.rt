@@ -33,8 +33,8 @@ pub fn number(r: Reply) -> u8
     ensures { result ≡ number_of r }
 {
     match r {
-        Reply::Done(_) => 0,
-        Reply::Refused(why) => refusal_number(why),
+        Ok(_) => 0,
+        Err(why) => refusal_number(why),
     }
 }
 
@@ -43,7 +43,7 @@ pub fn length(r: Reply) -> usize
     ensures { result ≡ length_of r }
 {
     match r {
-        Reply::Done(n) => n,
-        Reply::Refused(_) => 0,
+        Ok(n) => n,
+        Err(_) => 0,
     }
 }

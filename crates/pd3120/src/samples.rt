@@ -27,11 +27,11 @@ pub fn take(s: Shared, ch: Channel, channel: u8, level: bool, amperes: f32) -> T
 {
     let reply = questions::sample_reply(channel, amperes);
     match reply {
-        Reply::Done(_) => Taken {
+        Ok(_) => Taken {
             after: channel::take_sample(s, level, amperes, ch),
             reply: reply,
         },
-        Reply::Refused(_) => Taken {
+        Err(_) => Taken {
             after: ch,
             reply: reply,
         },

@@ -36,7 +36,7 @@ fn make(
     windows: &[u32],
     lent: &mut [u8],
 ) -> Answered {
-    let mut answered = plain(m, Reply::Done(0));
+    let mut answered = plain(m, Ok(0));
     let mut left = times;
     while 0 < left {
         let next = answered.after;
@@ -61,8 +61,8 @@ fn write(m: Module, swno: u16, bytes: &[u8], windows: &[u32]) -> Answered {
 // gives a channel its own.
 fn perform_line(m: Module, line: Line, windows: &[u32], bytes: &mut [u8]) -> Answered {
     match line {
-        Line::Empty => plain(m, Reply::Done(0)),
-        Line::Error(_) => plain(m, Reply::Done(0)),
+        Line::Empty => plain(m, Ok(0)),
+        Line::Error(_) => plain(m, Ok(0)),
         Line::Power => power(bytes),
         Line::Store => store(m, bytes),
         Line::Read(swno) => once(m, Call::Read(swno), windows, bytes),
@@ -76,11 +76,11 @@ fn perform_line(m: Module, line: Line, windows: &[u32], bytes: &mut [u8]) -> Ans
         }
         Line::Tick(n) => make(m, Call::Tick, n, b"", windows, bytes),
         // no call on the box
-        Line::Charge(_, _, _) => plain(m, Reply::Done(0)),
+        Line::Charge(_, _, _) => plain(m, Ok(0)),
         Line::Minute(n) => once(m, Call::Minute(n), windows, bytes),
         Line::Windows(channel) => once(m, Call::Windows(channel), windows, bytes),
         // a question beside the calls
-        Line::Outputs => plain(m, Reply::Done(0)),
+        Line::Outputs => plain(m, Ok(0)),
     }
 }
 

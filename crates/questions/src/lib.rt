@@ -60,16 +60,16 @@ pub fn read_reply(swno: u16, p: Place, lent: &[u8]) -> Reply
     ensures { result ≡ read_reply swno (placed p) lent.now }
 {
     if !within(swno) {
-        return Reply::Refused(Refusal::Beyond);
+        return Err(Refusal::Beyond);
     }
     if !listed(p) {
-        return Reply::Refused(Refusal::Unlisted);
+        return Err(Refusal::Unlisted);
     }
     let size = registers::size(p);
     if lent.len() < size {
-        return Reply::Refused(Refusal::BufferTooShort);
+        return Err(Refusal::BufferTooShort);
     }
-    Reply::Done(size)
+    Ok(size)
 }
 
 // Questions 1, 2, 3, 4, 6 and 7, of a write; enable is WriteEnable.
@@ -78,26 +78,26 @@ pub fn write_reply(enable: bool, swno: u16, p: Place, bytes: &[u8]) -> Reply
     ensures { result ≡ write_reply enable swno (placed p) bytes.now }
 {
     if !within(swno) {
-        return Reply::Refused(Refusal::Beyond);
+        return Err(Refusal::Beyond);
     }
     if !listed(p) {
-        return Reply::Refused(Refusal::Unlisted);
+        return Err(Refusal::Unlisted);
     }
     if !writable(p) {
-        return Reply::Refused(Refusal::NotWritable);
+        return Err(Refusal::NotWritable);
     }
     let sized = exact(p, bytes);
     let open = enabled(enable, p);
     if !sized {
-        return Reply::Refused(Refusal::WrongLength);
+        return Err(Refusal::WrongLength);
     }
     if !open {
-        return Reply::Refused(Refusal::NotEnabled);
+        return Err(Refusal::NotEnabled);
     }
     if !values::allowed(p, bytes) {
-        return Reply::Refused(Refusal::NotAllowed);
+        return Err(Refusal::NotAllowed);
     }
-    Reply::Done(0)
+    Ok(0)
 }
 
 // 8. Channel 1 to 16?
@@ -115,12 +115,12 @@ pub fn sample_reply(k: u8, x: f32) -> Reply
     let digital = is_digital(k);
     let finite = reals::is_finite(x);
     if !digital {
-        return Reply::Refused(Refusal::NoChannel);
+        return Err(Refusal::NoChannel);
     }
     if !finite {
-        return Reply::Refused(Refusal::NotFinite);
+        return Err(Refusal::NotFinite);
     }
-    Reply::Done(0)
+    Ok(0)
 }
 
 // 15 of the table's number, and 7 of X.
@@ -129,10 +129,10 @@ pub fn look_up_reply(k: u8, x: f32) -> Reply
 {
     let known = (k == 1) | (k == 2);
     if !known {
-        return Reply::Refused(Refusal::NoTable);
+        return Err(Refusal::NoTable);
     }
     if !reals::is_finite(x) {
-        return Reply::Refused(Refusal::NotAllowed);
+        return Err(Refusal::NotAllowed);
     }
-    Reply::Done(0)
+    Ok(0)
 }

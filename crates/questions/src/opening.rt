@@ -17,9 +17,9 @@ pub fn minute_reply(n: u16) -> Reply
     ensures { result ≡ minute_reply n }
 {
     if is_minute(n) {
-        return Reply::Done(0);
+        return Ok(0);
     }
-    Reply::Refused(Refusal::NotMinute)
+    Err(Refusal::NotMinute)
 }
 
 // 18 of a window's start and end.
@@ -50,13 +50,13 @@ pub fn windows_reply(k: u8, windows: &[u32]) -> Reply
     ensures { result ≡ windows_reply k windows.now }
 {
     if !crate::is_digital(k) {
-        return Reply::Refused(Refusal::NoChannel);
+        return Err(Refusal::NoChannel);
     }
     if 8 < windows.len() {
-        return Reply::Refused(Refusal::TooManyWindows);
+        return Err(Refusal::TooManyWindows);
     }
     if !are_minutes(windows) {
-        return Reply::Refused(Refusal::NotMinute);
+        return Err(Refusal::NotMinute);
     }
-    Reply::Done(0)
+    Ok(0)
 }

@@ -1,4 +1,5 @@
 -- What a read leaves of the box, and that its two parts, put back, are that box. Assumes nothing.
+use Rattle.std.specs.Prelude.{Ok, Err}
 use mathlib.Core.Path.{◌≡◌, refl}
 use mathlib.Core.List.{List}
 use Prim.Native.Nat.{ℕ, ◌-◌, ◌/◌, ◌<◌}
@@ -6,8 +7,7 @@ use native.Mathlib.Omega.{arith}
 use lib.ListN.{length, get_or}
 use lib.Seq.{get_or-set_same, set-get_or}
 use Rattle.model.specs.declared.Module.{Module}
-use Rattle.model.specs.declared.Reply.{Reply}
-use Rattle.model.specs.declared.Reply.TheVariants.{Done, Refused}
+use Rattle.model.specs.Questions.{Reply}
 use Rattle.model.specs.State.{nothing, channel_at}
 use Rattle.model.specs.Registers.{Place, place, service, digital, common, data_channel, unlisted}
 use Rattle.model.specs.Reads.{digital_read, after_read}
@@ -52,8 +52,8 @@ after-back unlisted i m o h = rw (set-get_or m.channels i nothing)
 
 leaves-back : (r : Reply) (p : Place) (i : ℕ) (m : Module) → OfChannel i p → i < length m.channels
     → put_back (read_leaves r p m).service i (get_or (read_leaves r p m).channels i nothing) m ≡ read_leaves r p m
-leaves-back (Done n) p i m o h = after-back p i m o h
-leaves-back (Refused w) p i m o h = rw (set-get_or m.channels i nothing)
+leaves-back (Ok n) p i m o h = after-back p i m o h
+leaves-back (Err w) p i m o h = rw (set-get_or m.channels i nothing)
 
 pub put-back : (m : Module) (n : ℕ) (lent : List ℕ) → length m.channels ≡ 16
     → put_back (reading_of m n lent).service (slot_of (n / 16)) (reading_of m n lent).channel m ≡ read_leaves (read_reply n (place n) lent) (place n) m

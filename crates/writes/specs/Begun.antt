@@ -2,15 +2,14 @@
 -- every channel in turn.
 -- Those down to `each_written` are the parts of the model's `written`, one by one, for the functions that make one part each; that they are parts of it is shown
 -- by `begin`'s contract, `BegunBy`, which is an equation with the model's call. Definitions only.
-use Rattle.std.specs.Prelude.{◌≡◌, Bool, true, false, List, ◌++◌, ℕ, ◌/◌, ◌≤◌, ltb, length, get_or, take, drop, set}
+use Rattle.std.specs.Prelude.{◌≡◌, Bool, true, false, List, ◌++◌, ℕ, ◌/◌, ◌≤◌, ltb, length, get_or, take, drop, set, Ok, Err}
 use Rattle.integers.specs.Bytes.{number}
 use Rattle.model.specs.declared.Channel.{Channel}
 use Rattle.model.specs.declared.Shared.{Shared}
 use Rattle.model.specs.declared.Service.{Service}
 use Rattle.model.specs.declared.DataChannel.{DataChannel}
 use Rattle.model.specs.declared.Module.{Module}
-use Rattle.model.specs.declared.Reply.{Reply}
-use Rattle.model.specs.declared.Reply.TheVariants.{Done, Refused}
+use Rattle.model.specs.Questions.{Reply}
 use Rattle.model.specs.declared.ServiceRegister.{ServiceRegister}
 use Rattle.model.specs.declared.ServiceRegister.TheVariants.{Highest, Reset, FreeRunTimer, WDTimer, ModuleConfig, WDPreset, WriteEnable, CommonError}
 use Rattle.model.specs.State.{write_enable_of, data_channel_of, module_of, nothing}
@@ -54,8 +53,8 @@ data_after (data_channel r) s bs d = data_written r s bs d
 data_after unlisted s bs d = d
 
 abbrev pub data_left : Reply → Place → Shared → List ℕ → DataChannel → DataChannel
-data_left (Done k) p s bs d = data_after p s bs d
-data_left (Refused q) p s bs d = d
+data_left (Ok k) p s bs d = data_after p s bs d
+data_left (Err q) p s bs d = d
 
 unfoldable pub data_by : Shared → ℕ → List ℕ → DataChannel → DataChannel
 data_by s n bs d = data_left (write_reply (write_enable_of s) n (place n) bs) (place n) s bs d

@@ -176,7 +176,7 @@ pub fn begin_in_place(
     let p = registers::place_of(swno);
     let reply = questions::write_reply(s.write_enable, swno, p, b);
     match reply {
-        Reply::Done(_) => {
+        Ok(_) => {
             *ch = channel_after(p, *s, b, *ch);
             *v = service_after(p, *v);
             *s = shared_after(p, b, *s);
@@ -188,7 +188,7 @@ pub fn begin_in_place(
                 word: word_of(p, b),
             }
         }
-        Reply::Refused(_) => Rest {
+        Err(_) => Rest {
             reply: reply,
             count: 0,
             of_data: false,
@@ -205,8 +205,8 @@ pub fn data_after(s: Shared, d: DataChannel, swno: u16, b: &[u8]) -> DataChannel
     let p = registers::place_of(swno);
     let reply = questions::write_reply(s.write_enable, swno, p, b);
     match reply {
-        Reply::Done(_) => data_written(p, s, b, d),
-        Reply::Refused(_) => d,
+        Ok(_) => data_written(p, s, b, d),
+        Err(_) => d,
     }
 }
 

@@ -1,4 +1,5 @@
 -- The wire read of a Counter: it is done, and its four bytes stand for the count. Assumes nothing.
+use Rattle.std.specs.Prelude.{Ok}
 use mathlib.Core.Path.{◌≡◌, refl, ap, ◌∙◌}
 use mathlib.Core.Bool.{true}
 use mathlib.Core.List.{List, [], ◌∷◌}
@@ -11,8 +12,7 @@ use borrow.Author.Tests.{le-leb}
 use Rattle.integers.specs.Bytes.{bytes_of, signed_number, signed_bytes}
 use Rattle.integers.proofs.Claims.{come-back}
 use Rattle.model.specs.declared.Module.{Module}
-use Rattle.model.specs.declared.Reply.{Reply}
-use Rattle.model.specs.declared.Reply.TheVariants.{Done}
+use Rattle.model.specs.Questions.{Reply}
 use Rattle.model.specs.declared.DigitalRegister.TheVariants.{Counter}
 use Rattle.model.specs.State.{channel_at}
 use Rattle.model.specs.Settings.{is_digital}
@@ -27,7 +27,7 @@ use Rattle.charge.specs.Readings.{counter_swno, lent_bytes}
 at-counter : (k : ℕ) → is_digital k ≡ true → place (counter_swno k) ≡ digital k Counter
 at-counter k d = let (a, b) = range k d in digital-place k a b 2 (omega arith)
 
-answers : (k : ℕ) → is_digital k ≡ true → read_reply (counter_swno k) (place (counter_swno k)) lent_bytes ≡ Done 4
+answers : (k : ℕ) → is_digital k ≡ true → read_reply (counter_swno k) (place (counter_swno k)) lent_bytes ≡ Ok 4
 unfolding read_reply
 answers k d =
     let (a, b) = range k d in
@@ -35,11 +35,11 @@ answers k d =
     rw (at-counter k d, le-leb (counter_swno k) 0x13F h) refl
 
 pub wire-read : (m : Module) (k : ℕ) → is_digital k ≡ true
-    → step m (read (counter_swno k) lent_bytes) ≡ then_preset (read_as (Done 4) (digital k Counter) lent_bytes (cleared m))
+    → step m (read (counter_swno k) lent_bytes) ≡ then_preset (read_as (Ok 4) (digital k Counter) lent_bytes (cleared m))
 unfolding step
 wire-read m k d =
     ap (λ (r : Reply). then_preset (read_as r (place (counter_swno k)) lent_bytes (cleared m))) (answers k d)
-    ∙ ap (λ (p : Place). then_preset (read_as (Done 4) p lent_bytes (cleared m))) (at-counter k d)
+    ∙ ap (λ (p : Place). then_preset (read_as (Ok 4) p lent_bytes (cleared m))) (at-counter k d)
 
 pub counter-read : (m : Module) (k : ℕ) → is_digital k ≡ true → SFits w32 (channel_at m k).counter
     → signed_number (step m (read (counter_swno k) lent_bytes)).answer.buffer ≡ (channel_at m k).counter

@@ -1,5 +1,6 @@
 -- The whole image: what its sections hold is a setup, and a setup is what they hold; so an accepted image of the length that is stored is stored again as the
 -- same bytes, an older one as one that holds the same, and what a setup in its ranges stores is accepted and decodes to that setup. Assumes nothing.
+use Rattle.std.specs.Prelude.{Ok}
 use mathlib.Core.Path.{◌≡◌, refl, sym, ap, ap₂, ◌∙◌}
 use mathlib.Core.List.{List, [], ◌∷◌, ◌++◌, append-nil}
 use Prim.Native.Nat.{ℕ, ◌%◌, ◌<◌}
@@ -14,7 +15,6 @@ use Rattle.integers.proofs.Claims.{come-back}
 use Rattle.integers.proofs.Laws.Bytes.{length-bytes}
 use Rattle.numbers.specs.Reals.{real_from}
 use Rattle.numbers.specs.Written.{from, up_to}
-use Rattle.model.specs.declared.Reply.TheVariants.{Done}
 use Rattle.model.specs.Reads.{config_bytes}
 use Rattle.model.specs.Image.{Setup, Section, module_bytes, entries_bytes, kept_bytes, contents_of, part, config_from, entries_from, pairs_from, kept_from}
 use Rattle.model.specs.Image.{setup_from, config_allowed, module_config_allowed, entry_allowed, pairs_allowed, kept_allowed}
@@ -112,10 +112,10 @@ record Accepted (img : List ℕ) : Type 0 where
   values : T (values_allowed img)
 
 -- each question was answered by yes
-accepted : (img : List ℕ) (n : ℕ) → power_up_reply img ≡ Done n → Accepted img
+accepted : (img : List ℕ) (n : ℕ) → power_up_reply img ≡ Ok n → Accepted img
 unfolding power_up_reply size_right version
 accepted img n e =
-    let yes = asked-yes (power_up_questions img) (Done 0) n e in
+    let yes = asked-yes (power_up_questions img) (Ok 0) n e in
     record {
       size = version-length versions (length img) (ltb→lt 0 (version img) yes.0);
       counts = yes.1.0;
@@ -167,7 +167,7 @@ module _ (img : List ℕ) (t : T (are_bytes img)) (a : Accepted img) where
       rw (← e) (rw (rw n at (come-back.bytes (drop p img) (bytes_drop p img t))) (take-append-drop p img))
 
 -- its setup is in its ranges
-pub accepted-held : (img : List ℕ) (n : ℕ) → T (are_bytes img) → power_up_reply img ≡ Done n → SetupHeld (decode img)
+pub accepted-held : (img : List ℕ) (n : ℕ) → T (are_bytes img) → power_up_reply img ≡ Ok n → SetupHeld (decode img)
 unfolding decode
 accepted-held img n t e = let a = accepted img n e in from-held (contents img) (contents-fit img t a) (contents-fine img t a)
 
@@ -177,7 +177,7 @@ unfolding version
 long-version img e = rw e
 
 -- and is stored again as the same bytes
-pub encode-again : (img : List ℕ) → T (are_bytes img) → length img ≡ image_size → power_up_reply img ≡ Done 0 → encode (decode img) ≡ img
+pub encode-again : (img : List ℕ) → T (are_bytes img) → length img ≡ image_size → power_up_reply img ≡ Ok 0 → encode (decode img) ≡ img
 encode-again img t l e =
     let a = accepted img 0 e in
     let v = long-version img l in
@@ -232,10 +232,10 @@ module _ (v : ℕ) (cs : List (List ℕ)) (f : Fit (take v sections) cs) (one : 
   values-right = rw (shown-version, split-again) a
 
   -- and is accepted
-  shown-accepted : power_up_reply shown ≡ Done 0
+  shown-accepted : power_up_reply shown ≡ Ok 0
   unfolding power_up_reply size_right
   shown-accepted =
-      yes-asked (power_up_questions shown) (Done 0) (rw shown-version (lt→ltb 0 v low), (counts-right, (sum-right, (values-right, tt))))
+      yes-asked (power_up_questions shown) (Ok 0) (rw shown-version (lt→ltb 0 v low), (counts-right, (sum-right, (values-right, tt))))
 
 -- the image of a setup, and the one that the box before Change 1 stored
 module _ (s : Setup) (h : SetupHeld s) where
@@ -248,7 +248,7 @@ module _ (s : Setup) (h : SetupHeld s) where
   decode-back =
       ap setup_from (shown-contents 3 (contents_of s) (of-fit s h) refl (omega arith) (of-allowed s h) ∙ append-nil (contents_of s)) ∙ of-back s h
 
-  pub encode-accepted : power_up_reply (encode s) ≡ Done 0
+  pub encode-accepted : power_up_reply (encode s) ≡ Ok 0
   unfolding encode
   encode-accepted = shown-accepted 3 (contents_of s) (of-fit s h) refl (omega arith) (of-allowed s h)
 
@@ -266,7 +266,7 @@ module _ (s : Setup) (h : SetupHeld s) where
   pub older-long : length (older_image s) ≡ 717
   older-long = shown-long 2 (take 2 (contents_of s)) older-fit refl (omega arith) older-allowed
 
-  pub older-accepted : power_up_reply (older_image s) ≡ Done 0
+  pub older-accepted : power_up_reply (older_image s) ≡ Ok 0
   older-accepted = shown-accepted 2 (take 2 (contents_of s)) older-fit refl (omega arith) older-allowed
 
   -- it holds the same, but zeros for the data channel

@@ -1,5 +1,6 @@
 -- What calls leave: every call the number of channels; and a call of a channel c any part of what decides its InFlag, Counter, operating time and windows (Inputs)
 -- that the rules which the call runs leave. Assumes nothing.
+use Rattle.std.specs.Prelude.{Ok, Err}
 use mathlib.Core.Path.{◌≡◌, refl, sym, ◌∙◌, ap}
 use mathlib.Core.Bool.{Bool}
 use mathlib.Core.List.{List}
@@ -8,8 +9,7 @@ use native.Mathlib.Omega.{arith}
 use lib.ListN.{length, get_or, length-set, length-map}
 use Rattle.model.specs.declared.Channel.{Channel}
 use Rattle.model.specs.declared.Module.{Module}
-use Rattle.model.specs.declared.Reply.{Reply}
-use Rattle.model.specs.declared.Reply.TheVariants.{Done, Refused}
+use Rattle.model.specs.Questions.{Reply}
 use Rattle.model.specs.declared.ServiceRegister.{ServiceRegister}
 use Rattle.model.specs.declared.DigitalRegister.{DigitalRegister}
 use Rattle.model.specs.declared.CommonRegister.{CommonRegister}
@@ -32,29 +32,29 @@ size m = length m.channels
 
 read-size : (r : Reply) (p : Place) (m : Module) → size (read_leaves r p m) ≡ size m
 unfolding Reads.after_read
-read-size (Done n) (service r) m = refl
-read-size (Done n) (digital k r) m = length-set m.channels (k - 1) _
-read-size (Done n) (common r) m = refl
-read-size (Done n) (data_channel r) m = refl
-read-size (Done n) unlisted m = refl
-read-size (Refused q) p m = refl
+read-size (Ok n) (service r) m = refl
+read-size (Ok n) (digital k r) m = length-set m.channels (k - 1) _
+read-size (Ok n) (common r) m = refl
+read-size (Ok n) (data_channel r) m = refl
+read-size (Ok n) unlisted m = refl
+read-size (Err q) p m = refl
 
 write-size : (r : Reply) (p : Place) (bs : List ℕ) (m : Module) → size (write_leaves r p bs m) ≡ size m
 unfolding Writes.written
-write-size (Done n) (service r) bs m = length-map m.channels (Writes.every_written r)
-write-size (Done n) (digital k r) bs m = length-set m.channels (k - 1) _
-write-size (Done n) (common r) bs m = length-each (Writes.common_written r bs) 0 m.channels
-write-size (Done n) (data_channel r) bs m = refl
-write-size (Done n) unlisted bs m = refl
-write-size (Refused q) p bs m = refl
+write-size (Ok n) (service r) bs m = length-map m.channels (Writes.every_written r)
+write-size (Ok n) (digital k r) bs m = length-set m.channels (k - 1) _
+write-size (Ok n) (common r) bs m = length-each (Writes.common_written r bs) 0 m.channels
+write-size (Ok n) (data_channel r) bs m = refl
+write-size (Ok n) unlisted bs m = refl
+write-size (Err q) p bs m = refl
 
 sample-size : (r : Reply) (k : ℕ) (ch : Channel) (m : Module) → size (sample_leaves r k ch m) ≡ size m
-sample-size (Done n) k ch m = length-set m.channels (k - 1) ch
-sample-size (Refused q) k ch m = refl
+sample-size (Ok n) k ch m = length-set m.channels (k - 1) ch
+sample-size (Err q) k ch m = refl
 
 minute-size : (r : Reply) (n : ℕ) (m : Module) → size (minute_leaves r n m) ≡ size m
-minute-size (Done q) n m = refl
-minute-size (Refused q) n m = refl
+minute-size (Ok q) n m = refl
+minute-size (Err q) n m = refl
 
 pub step-size : (m : Module) (x : Request) → size (step m x).box ≡ size m
 unfolding step cleared watchdog_preset Tick.ticked
@@ -84,19 +84,19 @@ module _ {A : Type 0} (part : Inputs → A) (c : ℕ) where
 
     pub sample-stays : (r : Reply) (k : ℕ) (f : Channel → Channel) → (k - 1 ≡ c - 1 → (ch : Channel) → part (inputs (f ch)) ≡ part (inputs ch))
         → part_at (sample_leaves r k (f (channel_at m k)) m) ≡ part_at m
-    sample-stays (Done n) k f h = put-stays k f h
-    sample-stays (Refused q) k f h = refl
+    sample-stays (Ok n) k f h = put-stays k f h
+    sample-stays (Err q) k f h = refl
 
     pub minute-stays : (r : Reply) (n : ℕ) → part_at (minute_leaves r n m) ≡ part_at m
-    minute-stays (Done q) n = refl
-    minute-stays (Refused q) n = refl
+    minute-stays (Ok q) n = refl
+    minute-stays (Err q) n = refl
 
     pub read_stays : (r : Reply) (n : ℕ) → part_at (read_leaves r (place n) m) ≡ part_at m
     unfolding Reads.after_read
-    read_stays (Done q) n =
+    read_stays (Ok q) n =
         place-cases (λ p. part_at (Reads.after_read p m) ≡ part_at m) n refl (λ e r q. refl) (λ e r q. refl) (λ e r q. refl)
         (λ l₁ l₂ r q. put-stays (n / 16) (Reads.digital_read r) (λ e ch. ap part (in-read r ch)))
-    read_stays (Refused q) n = refl
+    read_stays (Err q) n = refl
 
     -- an accepted write of SWNo n, where the registers that n can name leave the part
     pub written-stays : 1 ≤ c → (n : ℕ) (bs : List ℕ)

@@ -6,7 +6,7 @@ use Prim.Native.Nat.{ℕ}
 use lib.Dec.{T}
 use lib.Pow.{are_bytes}
 use Rattle.model.specs.declared.Module.{Module}
-use Rattle.model.specs.declared.Reply.{Reply}
+use Rattle.model.specs.Questions.{Reply}
 use Rattle.model.specs.Questions.{number_of, power_up_reply}
 use Rattle.model.specs.Calls.{answer_of, power_up, power_up_answer}
 use Rattle.model.specs.Image.{setup_of, encode}

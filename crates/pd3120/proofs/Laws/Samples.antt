@@ -1,4 +1,5 @@
 -- A sample, or windows for a channel, put together. Assumes nothing.
+use Rattle.std.specs.Prelude.{Ok, Err}
 use mathlib.Core.Path.{◌≡◌, sym, ap, ◌∙◌}
 use mathlib.Core.Bool.{true, false}
 use mathlib.Core.List.{List, []}
@@ -9,8 +10,7 @@ use lib.Seq.{set-get_or}
 use Rattle.model.specs.declared.Channel.{Channel}
 use Rattle.model.specs.declared.Module.{Module}
 use Rattle.model.specs.declared.Refusal.{Refusal}
-use Rattle.model.specs.declared.Reply.{Reply}
-use Rattle.model.specs.declared.Reply.TheVariants.{Done, Refused}
+use Rattle.model.specs.Questions.{Reply}
 use Rattle.model.specs.State.{nothing, channel_at, with_channels}
 use Rattle.model.specs.Settings.{is_digital}
 use Rattle.model.specs.Questions.{sample_reply, windows_reply}
@@ -22,11 +22,11 @@ use Rattle.pd3120.specs.declared.Sampled.{Sampled}
 use Rattle.pd3120.specs.Answers.{step_of, sample_of, plain_of}
 
 -- an accepted sample is for channel 1 to 16, and so are accepted windows
-pub is-digital : (k : ℕ) (x : Float) (n : ℕ) → sample_reply k x ≡ Done n → is_digital k ≡ true
+pub is-digital : (k : ℕ) (x : Float) (n : ℕ) → sample_reply k x ≡ Ok n → is_digital k ≡ true
 unfolding sample_reply
 is-digital k x n e = (yes (is_digital k) _ _ n e).0
 
-pub has-channel : (k : ℕ) (ws : List ℕ) (n : ℕ) → windows_reply k ws ≡ Done n → is_digital k ≡ true
+pub has-channel : (k : ℕ) (ws : List ℕ) (n : ℕ) → windows_reply k ws ≡ Ok n → is_digital k ≡ true
 unfolding windows_reply
 has-channel k ws n e = (yes (is_digital k) _ _ n e).0
 
@@ -35,7 +35,7 @@ abbrev pub put_back : Reply → Channel → ℕ → Module → Stepped
 put_back r left k m = record { answer = answer_of r [] false false 0; box = with_channels (set m.channels (slot_of k) left) m }
 
 -- a sample that is done leaves what f makes of the channel
-pub done : (r q : Reply) (n k : ℕ) (f : Channel → Channel) (ch left : Channel) → r ≡ q → r ≡ Done n → ((n : ℕ) → q ≡ Done n → is_digital k ≡ true) → left ≡ f ch
+pub done : (r q : Reply) (n k : ℕ) (f : Channel → Channel) (ch left : Channel) → r ≡ q → r ≡ Ok n → ((n : ℕ) → q ≡ Ok n → is_digital k ≡ true) → left ≡ f ch
     → (m : Module) → get_or m.channels (slot_of k) nothing ≡ ch → put_back r left k m ≡ sampled_as q k (f (channel_at m k)) m
 done r q n k f ch left e d h g m p =
     let s : slot_of k ≡ k - 1 = rw (h n (sym e ∙ d)) in
@@ -43,7 +43,7 @@ done r q n k f ch left e d h g m p =
     rw (← e, d, s, same)
 
 -- one that is refused leaves the channel
-pub refused : (r q : Reply) (w : Refusal) (k : ℕ) (ch x : Channel) → r ≡ q → r ≡ Refused w
+pub refused : (r q : Reply) (w : Refusal) (k : ℕ) (ch x : Channel) → r ≡ q → r ≡ Err w
     → (m : Module) → get_or m.channels (slot_of k) nothing ≡ ch → put_back r ch k m ≡ sampled_as q k x m
 refused r q w k ch x e d m p = rw (← e, d, ← p, set-get_or m.channels (slot_of k) nothing)
 

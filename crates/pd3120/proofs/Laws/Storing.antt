@@ -1,4 +1,5 @@
 -- The answer of storing, and the room that its buffer has. Assumes nothing.
+use Rattle.std.specs.Prelude.{Ok, Err}
 use mathlib.Core.Path.{◌≡◌, refl, sym, ap, ◌∙◌}
 use mathlib.Core.Bool.{Bool, true, false, cond}
 use mathlib.Core.List.{List}
@@ -9,8 +10,7 @@ use lib.ListN.{length}
 use borrow.Author.Tests.{leb-true}
 use Rattle.model.specs.declared.Module.{Module}
 use Rattle.model.specs.declared.Refusal.TheVariants.{NoRoom}
-use Rattle.model.specs.declared.Reply.{Reply}
-use Rattle.model.specs.declared.Reply.TheVariants.{Done, Refused}
+use Rattle.model.specs.Questions.{Reply}
 use Rattle.model.specs.Questions.{number_of, store_reply}
 use Rattle.model.specs.Calls.{answer_of, stored, store_answer}
 
@@ -19,7 +19,7 @@ pub stored_answer : (m : Module) (lent : List ℕ) (r : Reply) (lent' : List ℕ
 unfolding store_answer
 stored_answer m lent r lent' e f = rw (e, f)
 
-room : (b : Bool) → number_of (cond b (Done 886) (Refused NoRoom)) ≡ 0 → b ≡ true
+room : (b : Bool) → number_of (cond b (Ok 886) (Err NoRoom)) ≡ 0 → b ≡ true
 room true e = refl
 room false e = absurd (omega arith)
 

@@ -1,4 +1,5 @@
 -- No answer is longer than an image: a reply's length is at most that of what would be done, whatever is asked first. Assumes nothing.
+use Rattle.std.specs.Prelude.{Ok, Err}
 use mathlib.Core.Path.{◌≡◌, refl, sym, ap, subst, ◌∙◌}
 use mathlib.Core.Bool.{Bool, true, false, cond}
 use mathlib.Core.List.{List, [], ◌∷◌}
@@ -13,8 +14,7 @@ use Rattle.model.specs.declared.Module.{Module}
 use Rattle.model.specs.declared.DataRegister.{DataRegister}
 use Rattle.model.specs.declared.DataRegister.TheVariants.{RealA, RealB, TimerA, TimerB, LookUp1, LookUp2}
 use Rattle.model.specs.declared.Refusal.{Refusal}
-use Rattle.model.specs.declared.Reply.{Reply}
-use Rattle.model.specs.declared.Reply.TheVariants.{Done, Refused}
+use Rattle.model.specs.Questions.{Reply}
 use Rattle.model.specs.declared.Service.{Service}
 use Rattle.model.specs.declared.Shared.{Shared}
 use Rattle.model.specs.State.{config, write_enable_of, service_of, module_of, nothing}
@@ -33,13 +33,13 @@ use Rattle.registers.proofs.Laws.{slot-fits}
 use Rattle.writes.specs.declared.Begun.{Begun}
 use Rattle.pd3120.specs.Parts.{Has, WriteBy, SampleBy, MinuteBy, WindowsBy}
 
-answered : (b : Bool) (r : Reply) (w : Refusal) (n : ℕ) → length_of r ≤ n → length_of (cond b r (Refused w)) ≤ n
+answered : (b : Bool) (r : Reply) (w : Refusal) (n : ℕ) → length_of r ≤ n → length_of (cond b r (Err w)) ≤ n
 answered true r w n h = h
 answered false r w n h = omega arith
 
-asked-length : (qs : List Question) (n : ℕ) → length_of (asked qs (Done n)) ≤ n
+asked-length : (qs : List Question) (n : ℕ) → length_of (asked qs (Ok n)) ≤ n
 asked-length [] n = omega arith
-asked-length (q ∷ qs) n = answered q.yes (asked qs (Done n)) q.refusal n (asked-length qs n)
+asked-length (q ∷ qs) n = answered q.yes (asked qs (Ok n)) q.refusal n (asked-length qs n)
 
 within : (n a : ℕ) → a ≤ n → n ≤ image_size → a ≤ image_size
 within n a h g = omega (arith, h, g)

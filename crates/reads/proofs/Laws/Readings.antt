@@ -6,7 +6,7 @@ use lib.ListN.{length, get_or, length-map}
 use Rattle.model.specs.declared.Channel.{Channel}
 use Rattle.model.specs.declared.Service.{Service}
 use Rattle.model.specs.declared.Module.{Module}
-use Rattle.model.specs.declared.Reply.{Reply}
+use Rattle.model.specs.Questions.{Reply}
 use Rattle.model.specs.State.{in_flag_of, nothing}
 use Rattle.model.specs.Registers.{Place, place}
 use Rattle.model.specs.Questions.{read_reply}

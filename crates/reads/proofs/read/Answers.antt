@@ -1,7 +1,7 @@
 use mathlib.Core.Path.{sym, ap, subst, ◌∙◌}
 use Prim.Native.Nat.{◌/◌, ◌<◌}
 use lib.ListN.{length, get_or}
-use Rattle.model.specs.declared.Reply.{Reply}
+use Rattle.model.specs.Questions.{Reply}
 use Rattle.model.specs.State.{nothing}
 use Rattle.model.specs.Registers.{Place}
 use Rattle.model.specs.Questions.{read_reply}
@@ -20,10 +20,10 @@ fill-requires c =
     let t = c in
     let s = t.args in
     let p = placed t.place_of-p.result in
-    roomy s.swno p s.buf.now _ (sym t.read_reply-reply.ensures ∙ c.in-Done.is)
+    roomy s.swno p s.buf.now _ (sym t.read_reply-reply.ensures ∙ c.in-Ok.is)
 
-pub returns-in-Done : goal.returns-in-Done
-returns-in-Done c =
+pub returns-in-Ok : goal.returns-in-Ok
+returns-in-Ok c =
     let t = c in
     let s = t.args in
     let lent = s.buf.now in
@@ -31,7 +31,7 @@ returns-in-Done c =
     let p = placed place_is.result in
     let e = place_is.ensures in
     let a = t.read_reply-reply in
-    let d = c.in-Done.is in
+    let d = c.in-Ok.is in
     let i = slot_of (s.swno / 16) in
     let o = subst (OfChannel i) (sym e) (slot-of s.swno) in
     record {
@@ -49,15 +49,15 @@ returns-in-Done c =
       reply = a.ensures ∙ ap (λ (q : Place). read_reply s.swno q lent) e;
     }
 
-pub returns-in-Refused : goal.returns-in-Refused
-returns-in-Refused c =
+pub returns-in-Err : goal.returns-in-Err
+returns-in-Err c =
     let s = c.args in
     let lent = s.buf.now in
     let place_is = c.place_of-p in
     let p = placed place_is.result in
     let e = place_is.ensures in
     let a = c.read_reply-reply in
-    let d = c.in-Refused.is in
+    let d = c.in-Err.is in
     let i = slot_of (s.swno / 16) in
     record {
       answer = λ cs n w own.

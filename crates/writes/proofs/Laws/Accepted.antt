@@ -1,4 +1,5 @@
 -- What follows where a write is accepted, and the answer and the box of a write. Assumes nothing.
+use Rattle.std.specs.Prelude.{Ok}
 use mathlib.Core.Path.{◌≡◌, sym, ◌∙◌}
 use mathlib.Core.Bool.{Bool, true}
 use mathlib.Core.List.{List}
@@ -8,8 +9,7 @@ use lib.ListN.{length}
 use Rattle.model.specs.declared.CommonRegister.{CommonRegister}
 use Rattle.model.specs.declared.CommonRegister.TheVariants.{OutFlags, InFlags, IOChError, ChError}
 use Rattle.model.specs.declared.Module.{Module}
-use Rattle.model.specs.declared.Reply.{Reply}
-use Rattle.model.specs.declared.Reply.TheVariants.{Done}
+use Rattle.model.specs.Questions.{Reply}
 use Rattle.model.specs.Registers.{Place, common, place, size}
 use Rattle.model.specs.State.{write_enable_of}
 use Rattle.model.specs.Questions.{question3, write_reply}
@@ -25,7 +25,7 @@ two_bytes IOChError bs q e = let z : ◌≡◌ {A = ℕ} 0 1 = cc in absurd (ome
 two_bytes ChError bs q e = let z : ◌≡◌ {A = ℕ} 0 1 = cc in absurd (omega arith)
 
 -- the questions of a write that is done
-pub done : (enable : Bool) (n : ℕ) (p : Place) (bs : List ℕ) (r : Reply) (k : ℕ) → r ≡ write_reply enable n p bs → r ≡ Done k → Accepted p bs
+pub done : (enable : Bool) (n : ℕ) (p : Place) (bs : List ℕ) (r : Reply) (k : ℕ) → r ≡ write_reply enable n p bs → r ≡ Ok k → Accepted p bs
 done enable n p bs r k w d = accepted enable n p bs k (sym w ∙ d)
 
 -- the answer with the box that it leaves is the write's

@@ -1,4 +1,5 @@
 -- The two steps of a write, put together: the channels of the second step, and the box that both leave. Assumes nothing.
+use Rattle.std.specs.Prelude.{Ok, Err}
 use mathlib.Core.Path.{◌≡◌, refl, sym, ap, ap₂, subst, ◌∙◌}
 use mathlib.Core.Bool.{Bool, true, false, cond}
 use mathlib.Core.List.{List, [], ◌∷◌, ◌++◌, map}
@@ -15,8 +16,7 @@ use Rattle.model.specs.declared.Service.{Service}
 use Rattle.model.specs.declared.DataChannel.{DataChannel}
 use Rattle.model.specs.declared.Module.{Module}
 use Rattle.model.specs.declared.Refusal.{Refusal}
-use Rattle.model.specs.declared.Reply.{Reply}
-use Rattle.model.specs.declared.Reply.TheVariants.{Done, Refused}
+use Rattle.model.specs.Questions.{Reply}
 use Rattle.model.specs.declared.ServiceRegister.{ServiceRegister}
 use Rattle.model.specs.declared.ServiceRegister.TheVariants.{Highest, Reset, FreeRunTimer, WDTimer, ModuleConfig, WDPreset, WriteEnable, CommonError}
 use Rattle.model.specs.State.{write_enable_of, data_channel_of, module_of, nothing}
@@ -138,7 +138,7 @@ module _ (s : Shared) (v : Service) (ch : Channel) (n : ℕ) (bs : List ℕ) (p 
   own : OfChannel (slot_of (n / 16)) (placed p)
   own = subst (OfChannel (slot_of (n / 16))) (sym e) (slot-of n)
 
-  pub begun-done : (k : ℕ) → r ≡ Done k → (s' : Shared) (v' : Service) (ch' : Channel) (count : ℕ) (of-data : Bool) (word : ℕ)
+  pub begun-done : (k : ℕ) → r ≡ Ok k → (s' : Shared) (v' : Service) (ch' : Channel) (count : ℕ) (of-data : Bool) (word : ℕ)
       → s' ≡ shared_after (placed p) bs s → v' ≡ service_after (placed p) v → ch' ≡ channel_after (placed p) s bs ch
       → count ≡ count_of (placed p) → of-data ≡ of_data_of (placed p) → word ≡ written_word (placed p) bs
       → BegunBy s v ch n bs
@@ -151,7 +151,7 @@ module _ (s : Shared) (v : Service) (ch : Channel) (n : ℕ) (bs : List ℕ) (p 
         (whole (placed p) bs (slot_of (n / 16)) m.shared m.service m.channels (data_channel_of m) own l)),
   )
 
-  pub begun-refused : (q : Refusal) → r ≡ Refused q
+  pub begun-refused : (q : Refusal) → r ≡ Err q
       → BegunBy s v ch n bs (record { reply = r; shared = s; service = v; channel = ch; count = 0; of_data = false; place = p; word = 0 })
   begun-refused q d = (
     omega arith,

@@ -3,27 +3,27 @@ use Rattle.writes.proofs.Laws.Begun.{begun-done, begun-refused}
 use Rattle.writes.proofs.begin_in_place.Goals as goal
 
 pub shared_after-requires : goal.shared_after-requires
-shared_after-requires c = done _ _ _ _ _ _ c.write_reply-reply.ensures c.in-Done.is
+shared_after-requires c = done _ _ _ _ _ _ c.write_reply-reply.ensures c.in-Ok.is
 
 pub channel_after-requires : goal.channel_after-requires
-channel_after-requires c = let t = c in done _ _ _ _ _ _ t.write_reply-reply.ensures c.in-Done.is
+channel_after-requires c = let t = c in done _ _ _ _ _ _ t.write_reply-reply.ensures c.in-Ok.is
 
 pub word_of-requires : goal.word_of-requires
-word_of-requires c = let t = c in done _ _ _ _ _ _ t.write_reply-reply.ensures c.in-Done.is
+word_of-requires c = let t = c in done _ _ _ _ _ _ t.write_reply-reply.ensures c.in-Ok.is
 
-pub returns-in-Done : goal.returns-in-Done
-returns-in-Done c =
+pub returns-in-Ok : goal.returns-in-Ok
+returns-in-Ok c =
     let t = c in
     let w = t.write_reply-reply in
     let p = t.place_of-p in
     let a = t.args in
-    begun-done a.s.now a.v.now a.ch.now a.swno a.b.now p.result w.result p.ensures w.ensures _ c.in-Done.is _ _ _ _ _ _
+    begun-done a.s.now a.v.now a.ch.now a.swno a.b.now p.result w.result p.ensures w.ensures _ c.in-Ok.is _ _ _ _ _ _
     c.shared_after.ensures c.service_after.ensures
     c.channel_after.ensures c.count_of.ensures c.of_data.ensures c.word_of.ensures
 
-pub returns-in-Refused : goal.returns-in-Refused
-returns-in-Refused c =
+pub returns-in-Err : goal.returns-in-Err
+returns-in-Err c =
     let w = c.write_reply-reply in
     let p = c.place_of-p in
     let a = c.args in
-    begun-refused a.s.now a.v.now a.ch.now a.swno a.b.now p.result w.result p.ensures w.ensures _ c.in-Refused.is
+    begun-refused a.s.now a.v.now a.ch.now a.swno a.b.now p.result w.result p.ensures w.ensures _ c.in-Err.is

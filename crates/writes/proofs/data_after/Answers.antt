@@ -4,19 +4,19 @@ use Rattle.writes.proofs.Laws.Begun.{data-by}
 use Rattle.writes.proofs.data_after.Goals as goal
 
 pub data_written-requires : goal.data_written-requires
-data_written-requires c = done _ _ _ _ _ _ c.write_reply-reply.ensures c.in-Done.is
+data_written-requires c = done _ _ _ _ _ _ c.write_reply-reply.ensures c.in-Ok.is
 
-pub returns-in-Done : goal.returns-in-Done
-returns-in-Done c =
+pub returns-in-Ok : goal.returns-in-Ok
+returns-in-Ok c =
     let t = c in
     let w = t.write_reply-reply in
     let p = t.place_of-p in
     let a = t.args in
-    c.data_written.ensures ∙ sym (data-by a.s a.swno a.b.now _ w.result a.d p.ensures w.ensures ∙ rw c.in-Done.is)
+    c.data_written.ensures ∙ sym (data-by a.s a.swno a.b.now _ w.result a.d p.ensures w.ensures ∙ rw c.in-Ok.is)
 
-pub returns-in-Refused : goal.returns-in-Refused
-returns-in-Refused c =
+pub returns-in-Err : goal.returns-in-Err
+returns-in-Err c =
     let w = c.write_reply-reply in
     let p = c.place_of-p in
     let a = c.args in
-    sym (data-by a.s a.swno a.b.now _ w.result a.d p.ensures w.ensures ∙ rw c.in-Refused.is)
+    sym (data-by a.s a.swno a.b.now _ w.result a.d p.ensures w.ensures ∙ rw c.in-Err.is)

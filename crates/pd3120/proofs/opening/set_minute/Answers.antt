@@ -3,16 +3,16 @@ use Rattle.model.specs.Calls.{step}
 use Rattle.pd3120.proofs.Laws.Minute.{set, not_set}
 use Rattle.pd3120.proofs.opening.set_minute.Goals as goal
 
-pub returns-in-Done : goal.returns-in-Done
+pub returns-in-Ok : goal.returns-in-Ok
 unfolding step
-returns-in-Done c =
+returns-in-Ok c =
     let a = c.args in
     let r = c.minute_reply-reply in
-    λ m p. set r.result (minute_reply a.minute) _ a.minute _ _ r.ensures c.in-Done.is c.with_minute.ensures m p
+    λ m p. set r.result (minute_reply a.minute) _ a.minute _ _ r.ensures c.in-Ok.is c.with_minute.ensures m p
 
-pub returns-in-Refused : goal.returns-in-Refused
+pub returns-in-Err : goal.returns-in-Err
 unfolding step
-returns-in-Refused c =
+returns-in-Err c =
     let a = c.args in
     let r = c.minute_reply-reply in
-    λ m p. not_set r.result (minute_reply a.minute) _ a.minute _ r.ensures c.in-Refused.is m p
+    λ m p. not_set r.result (minute_reply a.minute) _ a.minute _ r.ensures c.in-Err.is m p

@@ -6,19 +6,19 @@ use Rattle.model.specs.Calls.{step}
 use Rattle.pd3120.proofs.Laws.Samples.{is-digital, done, refused}
 use Rattle.pd3120.proofs.samples.take.Goals as goal
 
-pub returns-in-Done : goal.returns-in-Done
+pub returns-in-Ok : goal.returns-in-Ok
 unfolding step
-returns-in-Done c =
+returns-in-Ok c =
     let a = c.args in
     let r = c.sample_reply-reply in
     let k = a.channel in
     λ m e p.
-    done r.result (sample_reply k a.amperes) _ k (take_sample m.shared a.level a.amperes) _ _ r.ensures c.in-Done.is
+    done r.result (sample_reply k a.amperes) _ k (take_sample m.shared a.level a.amperes) _ _ r.ensures c.in-Ok.is
     (is-digital k a.amperes) (c.take_sample.ensures ∙ ap (λ (t : Shared). take_sample t a.level a.amperes a.ch) (sym e)) m p
 
-pub returns-in-Refused : goal.returns-in-Refused
+pub returns-in-Err : goal.returns-in-Err
 unfolding step
-returns-in-Refused c =
+returns-in-Err c =
     let a = c.args in
     let r = c.sample_reply-reply in
-    λ m e p. refused r.result (sample_reply a.channel a.amperes) _ a.channel _ _ r.ensures c.in-Refused.is m p
+    λ m e p. refused r.result (sample_reply a.channel a.amperes) _ a.channel _ _ r.ensures c.in-Err.is m p
