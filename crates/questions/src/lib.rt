@@ -2,7 +2,7 @@
 // each answer is the refusal of the first question whose answer is no, or what is done.
 #![tactic(auto)]
 
-ghost use Rattle.std.specs.Prelude.{◌≡◌};
+ghost use Rattle.std.specs.Prelude.{◌≡◌, true, false, OnOk, OnErr, IfErr};
 ghost use Rattle.model.specs.Settings.{is_digital};
 ghost use Rattle.model.specs.Questions.{question1, question2, question3, question4, question6, read_reply, write_reply, sample_reply, look_up_reply};
 ghost use Rattle.registers.specs.Places.{placed};
@@ -55,20 +55,23 @@ fn enabled(enable: bool, p: Place) -> bool
     !registers::is_protected(registers::access(p)) | enable
 }
 
+// The refusal of a question whose answer is no.
+pub fn ask(yes: bool, refusal: Refusal) -> Result<(), Refusal>
+    ensures yes { OnOk result (yes ≡ true) }
+    ensures no { OnErr result (yes ≡ false) }
+    ensures why { IfErr result (λ r. r ≡ refusal) }
+{
+    if yes { Ok(()) } else { Err(refusal) }
+}
+
 // Questions 1, 2 and 5, of a read into a lent buffer; p is the place of the SWNo.
 pub fn read_reply(swno: u16, p: Place, lent: &[u8]) -> Reply
     ensures { result ≡ read_reply swno (placed p) lent.now }
 {
-    if !within(swno) {
-        return Err(Refusal::Beyond);
-    }
-    if !listed(p) {
-        return Err(Refusal::Unlisted);
-    }
+    ask(within(swno), Refusal::Beyond)?;
+    ask(listed(p), Refusal::Unlisted)?;
     let size = registers::size(p);
-    if lent.len() < size {
-        return Err(Refusal::BufferTooShort);
-    }
+    ask(size <= lent.len(), Refusal::BufferTooShort)?;
     Ok(size)
 }
 
@@ -77,26 +80,12 @@ pub fn read_reply(swno: u16, p: Place, lent: &[u8]) -> Reply
 pub fn write_reply(enable: bool, swno: u16, p: Place, bytes: &[u8]) -> Reply
     ensures { result ≡ write_reply enable swno (placed p) bytes.now }
 {
-    if !within(swno) {
-        return Err(Refusal::Beyond);
-    }
-    if !listed(p) {
-        return Err(Refusal::Unlisted);
-    }
-    if !writable(p) {
-        return Err(Refusal::NotWritable);
-    }
-    let sized = exact(p, bytes);
-    let open = enabled(enable, p);
-    if !sized {
-        return Err(Refusal::WrongLength);
-    }
-    if !open {
-        return Err(Refusal::NotEnabled);
-    }
-    if !values::allowed(p, bytes) {
-        return Err(Refusal::NotAllowed);
-    }
+    ask(within(swno), Refusal::Beyond)?;
+    ask(listed(p), Refusal::Unlisted)?;
+    ask(writable(p), Refusal::NotWritable)?;
+    ask(exact(p, bytes), Refusal::WrongLength)?;
+    ask(enabled(enable, p), Refusal::NotEnabled)?;
+    ask(values::allowed(p, bytes), Refusal::NotAllowed)?;
     Ok(0)
 }
 
@@ -112,14 +101,8 @@ pub(crate) fn is_digital(k: u8) -> bool
 pub fn sample_reply(k: u8, x: f32) -> Reply
     ensures { result ≡ sample_reply k x }
 {
-    let digital = is_digital(k);
-    let finite = reals::is_finite(x);
-    if !digital {
-        return Err(Refusal::NoChannel);
-    }
-    if !finite {
-        return Err(Refusal::NotFinite);
-    }
+    ask(is_digital(k), Refusal::NoChannel)?;
+    ask(reals::is_finite(x), Refusal::NotFinite)?;
     Ok(0)
 }
 
@@ -127,12 +110,7 @@ pub fn sample_reply(k: u8, x: f32) -> Reply
 pub fn look_up_reply(k: u8, x: f32) -> Reply
     ensures { result ≡ look_up_reply k x }
 {
-    let known = (k == 1) | (k == 2);
-    if !known {
-        return Err(Refusal::NoTable);
-    }
-    if !reals::is_finite(x) {
-        return Err(Refusal::NotAllowed);
-    }
+    ask((k == 1) | (k == 2), Refusal::NoTable)?;
+    ask(reals::is_finite(x), Refusal::NotAllowed)?;
     Ok(0)
 }

@@ -3,6 +3,7 @@ ghost use Rattle.std.specs.Prelude.{◌≡◌, ◌&&◌};
 ghost use Rattle.model.specs.Hours.{window_of};
 ghost use Rattle.model.specs.Questions.{question18, are_minutes, minute_reply, windows_reply};
 
+use crate::{ask, is_digital};
 use model::{Refusal, Reply};
 
 // 18. A minute of the week?
@@ -16,10 +17,8 @@ fn is_minute(n: u16) -> bool
 pub fn minute_reply(n: u16) -> Reply
     ensures { result ≡ minute_reply n }
 {
-    if is_minute(n) {
-        return Ok(0);
-    }
-    Err(Refusal::NotMinute)
+    ask(is_minute(n), Refusal::NotMinute)?;
+    Ok(0)
 }
 
 // 18 of a window's start and end.
@@ -49,14 +48,8 @@ fn are_minutes(windows: &[u32]) -> bool
 pub fn windows_reply(k: u8, windows: &[u32]) -> Reply
     ensures { result ≡ windows_reply k windows.now }
 {
-    if !crate::is_digital(k) {
-        return Err(Refusal::NoChannel);
-    }
-    if 8 < windows.len() {
-        return Err(Refusal::TooManyWindows);
-    }
-    if !are_minutes(windows) {
-        return Err(Refusal::NotMinute);
-    }
+    ask(is_digital(k), Refusal::NoChannel)?;
+    ask(windows.len() <= 8, Refusal::TooManyWindows)?;
+    ask(are_minutes(windows), Refusal::NotMinute)?;
     Ok(0)
 }

@@ -1,32 +1,26 @@
-use borrow.Author.Tests.{le-leb, lt-leb}
 use mathlib.Core.Path.{sym, ◌∙◌}
+use Rattle.std.proofs.lemmas.Result.{err_from_is_err_and}
 use Rattle.model.specs.Questions.{read_reply}
 use Rattle.questions.proofs.read_reply.Goals as goal
 
-pub returns-then-not-within : goal.returns-then-not-within
+pub returns-in_err-ask : goal.returns-in_err-ask
 unfolding read_reply
-returns-then-not-within c = simp (sym c.within.ensures ∙ c.if-not-within.true)
+returns-in_err-ask c =
+    let p = err_from_is_err_and c.from_residual.result c.from_residual.ensures.1 in
+    rw (p.1, p.2, c.in_err-ask.ensures.why) (simp (sym c.within.ensures ∙ c.in_err-ask.ensures.no))
 
-pub returns-then-not-listed : goal.returns-then-not-listed
+pub returns-in_err-ask-2 : goal.returns-in_err-ask-2
 unfolding read_reply
-returns-then-not-listed c = simp (
-  sym c.listed.ensures ∙ c.if-not-listed.true,
-  sym c.within.ensures ∙ c.if-not-within.false,
-)
+returns-in_err-ask-2 c =
+    let p = err_from_is_err_and c.from_residual-in_err-ask-2.result c.from_residual-in_err-ask-2.ensures.1 in
+    rw (p.1, p.2, c.in_err-ask-2.ensures.why) (simp (sym c.within.ensures ∙ c.in_ok-ask.ensures.yes, sym c.listed.ensures ∙ c.in_err-ask-2.ensures.no))
 
-pub returns-then-lent-size : goal.returns-then-lent-size
+pub returns-in_err-ask-3 : goal.returns-in_err-ask-3
 unfolding read_reply
-returns-then-lent-size c = let e = c.size-size.ensures in simp (
-  lt-leb _ _ (rw e at c.if-lent-size.true),
-  sym c.listed.ensures ∙ c.if-not-listed.false,
-  sym c.within.ensures ∙ c.if-not-within.false,
-)
+returns-in_err-ask-3 c =
+    let p = err_from_is_err_and c.from_residual-in_err-ask-3.result c.from_residual-in_err-ask-3.ensures.1 in
+    rw (p.1, p.2, c.in_err-ask-3.ensures.why) (simp (sym c.within.ensures ∙ c.in_ok-ask.ensures.yes, sym c.listed.ensures ∙ c.in_ok-ask-2.ensures.yes, rw c.size-size.ensures at c.in_err-ask-3.ensures.no))
 
 pub returns : goal.returns
 unfolding read_reply
-returns c = let e = c.size-size.ensures in simp (
-  le-leb _ _ (rw e at c.if-lent-size.false),
-  e,
-  sym c.listed.ensures ∙ c.if-not-listed.false,
-  sym c.within.ensures ∙ c.if-not-within.false,
-)
+returns c = simp (sym c.within.ensures ∙ c.in_ok-ask.ensures.yes, sym c.listed.ensures ∙ c.in_ok-ask-2.ensures.yes, rw c.size-size.ensures at c.in_ok-ask-3.ensures.yes, c.size-size.ensures)

@@ -1,31 +1,26 @@
-use borrow.Author.Tests.{le-leb, lt-leb}
 use mathlib.Core.Path.{sym, ◌∙◌}
+use Rattle.std.proofs.lemmas.Result.{err_from_is_err_and}
 use Rattle.model.specs.Questions.{windows_reply}
 use Rattle.questions.proofs.opening.windows_reply.Goals as goal
 
-pub returns-then-not-is_digital : goal.returns-then-not-is_digital
+pub returns-in_err-ask : goal.returns-in_err-ask
 unfolding windows_reply
-returns-then-not-is_digital c = simp (sym c.is_digital.ensures ∙ c.if-not-is_digital.true)
+returns-in_err-ask c =
+    let p = err_from_is_err_and c.from_residual.result c.from_residual.ensures.1 in
+    rw (p.1, p.2, c.in_err-ask.ensures.why) (simp (sym c.is_digital.ensures ∙ c.in_err-ask.ensures.no))
 
-pub returns-then-windows-gt8 : goal.returns-then-windows-gt8
+pub returns-in_err-ask-2 : goal.returns-in_err-ask-2
 unfolding windows_reply
-returns-then-windows-gt8 c = simp (
-  lt-leb _ _ c.if-windows-gt8.true,
-  sym c.is_digital.ensures ∙ c.if-not-is_digital.false,
-)
+returns-in_err-ask-2 c =
+    let p = err_from_is_err_and c.from_residual-in_err-ask-2.result c.from_residual-in_err-ask-2.ensures.1 in
+    rw (p.1, p.2, c.in_err-ask-2.ensures.why) (simp (sym c.is_digital.ensures ∙ c.in_ok-ask.ensures.yes, c.in_err-ask-2.ensures.no))
 
-pub returns-then-not-are_minutes : goal.returns-then-not-are_minutes
+pub returns-in_err-ask-3 : goal.returns-in_err-ask-3
 unfolding windows_reply
-returns-then-not-are_minutes c = simp (
-  sym c.are_minutes.ensures ∙ c.if-not-are_minutes.true,
-  le-leb _ _ c.if-windows-gt8.false,
-  sym c.is_digital.ensures ∙ c.if-not-is_digital.false,
-)
+returns-in_err-ask-3 c =
+    let p = err_from_is_err_and c.from_residual-in_err-ask-3.result c.from_residual-in_err-ask-3.ensures.1 in
+    rw (p.1, p.2, c.in_err-ask-3.ensures.why) (simp (sym c.is_digital.ensures ∙ c.in_ok-ask.ensures.yes, c.in_ok-ask-2.ensures.yes, sym c.are_minutes.ensures ∙ c.in_err-ask-3.ensures.no))
 
 pub returns : goal.returns
 unfolding windows_reply
-returns c = simp (
-  sym c.are_minutes.ensures ∙ c.if-not-are_minutes.false,
-  le-leb _ _ c.if-windows-gt8.false,
-  sym c.is_digital.ensures ∙ c.if-not-is_digital.false,
-)
+returns c = simp (sym c.is_digital.ensures ∙ c.in_ok-ask.ensures.yes, c.in_ok-ask-2.ensures.yes, sym c.are_minutes.ensures ∙ c.in_ok-ask-3.ensures.yes)
