@@ -4,10 +4,9 @@
 ghost use Rattle.std.specs.Prelude.{◌≡◌};
 ghost use Rattle.model.specs.Questions.{power_up_reply, store_reply};
 ghost use Rattle.model.specs.Calls.{power_up, stored};
-ghost use Rattle.model.specs.Questions.{accepted};
-ghost use Rattle.image.specs.Answers.{sized_reply};
 
 use model::{Module, Refusal, Reply};
+use questions::ask;
 
 mod checks; // the questions of power-up
 mod decode; // what an image's bytes hold
@@ -24,38 +23,11 @@ pub struct Started {
 pub fn power_up_reply(img: &[u8]) -> Reply
     ensures { result ≡ power_up_reply img.now }
 {
-    if !checks::size_right(img) {
-        return Err(Refusal::ImageLength);
-    }
-    let counts = checks::counts_right(img);
-    let sum = checks::sum_right(img);
-    let values = checks::values_allowed(img);
-    in_order(counts, sum, values)
-}
-
-// The first of questions 11 to 13 whose answer is no.
-fn in_order(counts: bool, sum: bool, values: bool) -> Reply
-    ensures { result ≡ sized_reply counts sum values }
-{
-    if !counts {
-        return Err(Refusal::ImageCounts);
-    }
-    if !sum {
-        return Err(Refusal::ImageSum);
-    }
-    if !values {
-        return Err(Refusal::ImageValues);
-    }
+    ask(checks::size_right(img), Refusal::ImageLength)?;
+    ask(checks::counts_right(img), Refusal::ImageCounts)?;
+    ask(checks::sum_right(img), Refusal::ImageSum)?;
+    ask(checks::values_allowed(img), Refusal::ImageValues)?;
     Ok(0)
-}
-
-fn is_done(r: Reply) -> bool
-    ensures { result ≡ accepted r }
-{
-    match r {
-        Ok(_) => true,
-        Err(_) => false,
-    }
 }
 
 // Powers m up from an image. A refused one gives the box of all-zero settings.
@@ -64,7 +36,7 @@ pub fn power_up_in_place(m: &mut Module, img: &[u8]) -> Reply
     ensures reply { result ≡ power_up_reply img.now }
 {
     let reply = power_up_reply(img);
-    if is_done(reply) {
+    if reply.is_ok() {
         decode::put_box(img, m);
         return reply;
     }
@@ -91,9 +63,7 @@ pub fn store(m: Module, buf: &mut [u8]) -> Reply
     ensures reply { result ≡ store_reply buf.old }
     ensures buffer { buf.new ≡ stored m buf.old }
 {
-    if buf.len() < sizes::IMAGE {
-        return Err(Refusal::NoRoom);
-    }
+    ask(sizes::IMAGE <= buf.len(), Refusal::NoRoom)?;
     encode::put_body(m, buf);
     encode::put_sum(buf);
     Ok(sizes::IMAGE)

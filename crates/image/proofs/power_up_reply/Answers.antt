@@ -1,29 +1,42 @@
 use mathlib.Core.Path.{sym, ◌∙◌}
+use Rattle.std.proofs.lemmas.Result.{err_from_is_err_and}
 use Rattle.model.specs.Questions.{power_up_reply}
 use Rattle.image.proofs.Laws.Sections.{sized}
 use Rattle.image.proofs.power_up_reply.Goals as goal
 
-pub returns-then-not-size_right : goal.returns-then-not-size_right
+pub returns-in_err-ask : goal.returns-in_err-ask
 unfolding power_up_reply
-returns-then-not-size_right c = simp (sym c.size_right.ensures ∙ c.if-not-size_right.true)
+returns-in_err-ask c =
+    let p = err_from_is_err_and c.from_residual.result c.from_residual.ensures.1 in
+    rw (p.1, p.2, c.in_err-ask.ensures.why) (simp (sym c.size_right.ensures ∙ c.in_err-ask.ensures.no))
 
-pub counts_right-counts-requires : goal.counts_right-counts-requires
-counts_right-counts-requires c = sized c.args.img.now (sym c.size_right.ensures ∙ c.if-not-size_right.false)
+pub counts_right-requires : goal.counts_right-requires
+counts_right-requires c = sized c.args.img.now (sym c.size_right.ensures ∙ c.in_ok-ask.ensures.yes)
 
-pub sum_right-sum-requires : goal.sum_right-sum-requires
-sum_right-sum-requires c = sized c.args.img.now
-    (sym c.size_right.ensures ∙ c.if-not-size_right.false)
+pub returns-in_err-ask-2 : goal.returns-in_err-ask-2
+unfolding power_up_reply
+returns-in_err-ask-2 c =
+    let p = err_from_is_err_and c.from_residual-in_err-ask-2.result c.from_residual-in_err-ask-2.ensures.1 in
+    rw (p.1, p.2, c.in_err-ask-2.ensures.why) (simp (sym c.size_right.ensures ∙ c.in_ok-ask.ensures.yes, sym c.counts_right.ensures ∙ c.in_err-ask-2.ensures.no))
 
-pub values_allowed-values-requires : goal.values_allowed-values-requires
-values_allowed-values-requires c = sized c.args.img.now
-    (sym c.size_right.ensures ∙ c.if-not-size_right.false)
+pub sum_right-requires : goal.sum_right-requires
+sum_right-requires c = sized c.args.img.now (sym c.size_right.ensures ∙ c.in_ok-ask.ensures.yes)
+
+pub returns-in_err-ask-3 : goal.returns-in_err-ask-3
+unfolding power_up_reply
+returns-in_err-ask-3 c =
+    let p = err_from_is_err_and c.from_residual-in_err-ask-3.result c.from_residual-in_err-ask-3.ensures.1 in
+    rw (p.1, p.2, c.in_err-ask-3.ensures.why) (simp (sym c.size_right.ensures ∙ c.in_ok-ask.ensures.yes, sym c.counts_right.ensures ∙ c.in_ok-ask-2.ensures.yes, sym c.sum_right.ensures ∙ c.in_err-ask-3.ensures.no))
+
+pub values_allowed-requires : goal.values_allowed-requires
+values_allowed-requires c = sized c.args.img.now (sym c.size_right.ensures ∙ c.in_ok-ask.ensures.yes)
+
+pub returns-in_err-ask-4 : goal.returns-in_err-ask-4
+unfolding power_up_reply
+returns-in_err-ask-4 c =
+    let p = err_from_is_err_and c.from_residual-in_err-ask-4.result c.from_residual-in_err-ask-4.ensures.1 in
+    rw (p.1, p.2, c.in_err-ask-4.ensures.why) (simp (sym c.size_right.ensures ∙ c.in_ok-ask.ensures.yes, sym c.counts_right.ensures ∙ c.in_ok-ask-2.ensures.yes, sym c.sum_right.ensures ∙ c.in_ok-ask-3.ensures.yes, sym c.values_allowed.ensures ∙ c.in_err-ask-4.ensures.no))
 
 pub returns : goal.returns
 unfolding power_up_reply
-returns c = simp (
-  c.in_order.ensures,
-  c.values_allowed-values.ensures,
-  c.sum_right-sum.ensures,
-  c.counts_right-counts.ensures,
-  sym c.size_right.ensures ∙ c.if-not-size_right.false,
-)
+returns c = simp (sym c.size_right.ensures ∙ c.in_ok-ask.ensures.yes, sym c.counts_right.ensures ∙ c.in_ok-ask-2.ensures.yes, sym c.sum_right.ensures ∙ c.in_ok-ask-3.ensures.yes, sym c.values_allowed.ensures ∙ c.in_ok-ask-4.ensures.yes)
