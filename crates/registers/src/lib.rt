@@ -127,168 +127,103 @@ pub fn wire_slot(swno: u16) -> usize
     slot((swno / 0x10) as usize)
 }
 
-fn service_access(r: ServiceRegister) -> Access
-    ensures { result ≡ (Table.service_row r).access }
+// A register's row of the table: its access, and its size in bytes.
+#[derive(Drop)]
+struct Row(Access, usize);
+
+fn service_row(r: ServiceRegister) -> Row
+    ensures { (result.0 ≡ (Table.service_row r).access) × (result.1 ≡ (Table.service_row r).size) }
 {
     match r {
-        ServiceRegister::Highest => Access::ReadOnly,
-        ServiceRegister::Reset => Access::Writable,
-        ServiceRegister::FreeRunTimer => Access::ReadOnly,
-        ServiceRegister::WDTimer => Access::Writable,
-        ServiceRegister::ModuleConfig => Access::Protected,
-        ServiceRegister::WDPreset => Access::Protected,
-        ServiceRegister::WriteEnable => Access::Writable,
-        ServiceRegister::CommonError => Access::Writable,
+        ServiceRegister::Highest => Row(Access::ReadOnly, 2),
+        ServiceRegister::Reset => Row(Access::Writable, 1),
+        ServiceRegister::FreeRunTimer => Row(Access::ReadOnly, 4),
+        ServiceRegister::WDTimer => Row(Access::Writable, 4),
+        ServiceRegister::ModuleConfig => Row(Access::Protected, 4),
+        ServiceRegister::WDPreset => Row(Access::Protected, 4),
+        ServiceRegister::WriteEnable => Row(Access::Writable, 1),
+        ServiceRegister::CommonError => Row(Access::Writable, 12),
     }
 }
 
-fn digital_access(r: DigitalRegister) -> Access
-    ensures { result ≡ (Table.digital_row r).access }
+fn digital_row(r: DigitalRegister) -> Row
+    ensures { (result.0 ≡ (Table.digital_row r).access) × (result.1 ≡ (Table.digital_row r).size) }
 {
     match r {
-        DigitalRegister::FlagReg => Access::Writable,
-        DigitalRegister::OutTimer => Access::Writable,
-        DigitalRegister::Counter => Access::Writable,
-        DigitalRegister::OutCurrent => Access::Writable,
-        DigitalRegister::OperatingTime => Access::Writable,
-        DigitalRegister::UserBytes => Access::Writable,
-        DigitalRegister::FBTimer => Access::Writable,
-        DigitalRegister::FBPreset => Access::Protected,
-        DigitalRegister::OutPreset => Access::Protected,
-        DigitalRegister::ChConfig => Access::Protected,
-        DigitalRegister::MinCurrent => Access::Protected,
-        DigitalRegister::MaxCurrent => Access::Protected,
-        DigitalRegister::UserReals => Access::Protected,
-        DigitalRegister::Maintenance => Access::Protected,
-        DigitalRegister::ChError => Access::ReadOnly,
+        DigitalRegister::FlagReg => Row(Access::Writable, 1),
+        DigitalRegister::OutTimer => Row(Access::Writable, 4),
+        DigitalRegister::Counter => Row(Access::Writable, 4),
+        DigitalRegister::OutCurrent => Row(Access::Writable, 4),
+        DigitalRegister::OperatingTime => Row(Access::Writable, 4),
+        DigitalRegister::UserBytes => Row(Access::Writable, 4),
+        DigitalRegister::FBTimer => Row(Access::Writable, 4),
+        DigitalRegister::FBPreset => Row(Access::Protected, 4),
+        DigitalRegister::OutPreset => Row(Access::Protected, 4),
+        DigitalRegister::ChConfig => Row(Access::Protected, 4),
+        DigitalRegister::MinCurrent => Row(Access::Protected, 4),
+        DigitalRegister::MaxCurrent => Row(Access::Protected, 4),
+        DigitalRegister::UserReals => Row(Access::Protected, 8),
+        DigitalRegister::Maintenance => Row(Access::Protected, 4),
+        DigitalRegister::ChError => Row(Access::ReadOnly, 4),
     }
 }
 
-fn common_access(r: CommonRegister) -> Access
-    ensures { result ≡ (Table.common_row r).access }
+fn common_row(r: CommonRegister) -> Row
+    ensures { (result.0 ≡ (Table.common_row r).access) × (result.1 ≡ (Table.common_row r).size) }
 {
     match r {
-        CommonRegister::OutFlags => Access::Writable,
-        CommonRegister::InFlags => Access::Writable,
-        CommonRegister::IOChError => Access::ReadOnly,
-        CommonRegister::ChError => Access::ReadOnly,
+        CommonRegister::OutFlags => Row(Access::Writable, 2),
+        CommonRegister::InFlags => Row(Access::Writable, 2),
+        CommonRegister::IOChError => Row(Access::ReadOnly, 4),
+        CommonRegister::ChError => Row(Access::ReadOnly, 4),
     }
 }
 
-fn data_access(r: DataRegister) -> Access
-    ensures { result ≡ (Table.data_row r).access }
+fn data_row(r: DataRegister) -> Row
+    ensures { (result.0 ≡ (Table.data_row r).access) × (result.1 ≡ (Table.data_row r).size) }
 {
     match r {
-        DataRegister::RealA => Access::Writable,
-        DataRegister::RealB => Access::Writable,
-        DataRegister::TimerA => Access::Writable,
-        DataRegister::TimerB => Access::Writable,
-        DataRegister::LookUp1 => Access::Protected,
-        DataRegister::LookUp2 => Access::Protected,
+        DataRegister::RealA => Row(Access::Writable, 4),
+        DataRegister::RealB => Row(Access::Writable, 4),
+        DataRegister::TimerA => Row(Access::Writable, 4),
+        DataRegister::TimerB => Row(Access::Writable, 4),
+        DataRegister::LookUp1 => Row(Access::Protected, 80),
+        DataRegister::LookUp2 => Row(Access::Protected, 80),
+    }
+}
+
+fn row_of(p: Place) -> Row
+    ensures { (result.0 ≡ Table.access (placed p)) × (result.1 ≡ Table.size (placed p)) }
+{
+    match p {
+        Place::Service(r) => service_row(r),
+        Place::Digital(_, r) => digital_row(r),
+        Place::Common(r) => common_row(r),
+        Place::Data(r) => data_row(r),
+        Place::Unlisted => Row(Access::ReadOnly, 0),
     }
 }
 
 pub fn access(p: Place) -> Access
     ensures { result ≡ Table.access (placed p) }
 {
-    match p {
-        Place::Service(r) => service_access(r),
-        Place::Digital(_, r) => digital_access(r),
-        Place::Common(r) => common_access(r),
-        Place::Data(r) => data_access(r),
-        Place::Unlisted => Access::ReadOnly,
-    }
-}
-
-fn service_size(r: ServiceRegister) -> usize
-    ensures { result ≡ (Table.service_row r).size }
-{
-    match r {
-        ServiceRegister::Highest => 2,
-        ServiceRegister::Reset => 1,
-        ServiceRegister::FreeRunTimer => 4,
-        ServiceRegister::WDTimer => 4,
-        ServiceRegister::ModuleConfig => 4,
-        ServiceRegister::WDPreset => 4,
-        ServiceRegister::WriteEnable => 1,
-        ServiceRegister::CommonError => 12,
-    }
-}
-
-fn digital_size(r: DigitalRegister) -> usize
-    ensures { result ≡ (Table.digital_row r).size }
-{
-    match r {
-        DigitalRegister::FlagReg => 1,
-        DigitalRegister::OutTimer => 4,
-        DigitalRegister::Counter => 4,
-        DigitalRegister::OutCurrent => 4,
-        DigitalRegister::OperatingTime => 4,
-        DigitalRegister::UserBytes => 4,
-        DigitalRegister::FBTimer => 4,
-        DigitalRegister::FBPreset => 4,
-        DigitalRegister::OutPreset => 4,
-        DigitalRegister::ChConfig => 4,
-        DigitalRegister::MinCurrent => 4,
-        DigitalRegister::MaxCurrent => 4,
-        DigitalRegister::UserReals => 8,
-        DigitalRegister::Maintenance => 4,
-        DigitalRegister::ChError => 4,
-    }
-}
-
-fn common_size(r: CommonRegister) -> usize
-    ensures { result ≡ (Table.common_row r).size }
-{
-    match r {
-        CommonRegister::OutFlags => 2,
-        CommonRegister::InFlags => 2,
-        CommonRegister::IOChError => 4,
-        CommonRegister::ChError => 4,
-    }
-}
-
-fn data_size(r: DataRegister) -> usize
-    ensures { result ≡ (Table.data_row r).size }
-{
-    match r {
-        DataRegister::RealA => 4,
-        DataRegister::RealB => 4,
-        DataRegister::TimerA => 4,
-        DataRegister::TimerB => 4,
-        DataRegister::LookUp1 => 80,
-        DataRegister::LookUp2 => 80,
-    }
+    row_of(p).0
 }
 
 pub fn size(p: Place) -> usize
     ensures { result ≡ Table.size (placed p) }
 {
-    match p {
-        Place::Service(r) => service_size(r),
-        Place::Digital(_, r) => digital_size(r),
-        Place::Common(r) => common_size(r),
-        Place::Data(r) => data_size(r),
-        Place::Unlisted => 0,
-    }
+    row_of(p).1
 }
 
 pub fn is_writable(a: Access) -> bool
     ensures { result ≡ is_writable a }
 {
-    match a {
-        Access::ReadOnly => false,
-        Access::Writable => true,
-        Access::Protected => true,
-    }
+    !matches!(a, Access::ReadOnly)
 }
 
 pub fn is_protected(a: Access) -> bool
     ensures { result ≡ is_protected a }
 {
-    match a {
-        Access::ReadOnly => false,
-        Access::Writable => false,
-        Access::Protected => true,
-    }
+    matches!(a, Access::Protected)
 }

@@ -10,6 +10,7 @@ ghost use Rattle.settings.specs.Levels.{levels_of};
 use model::{Channel, Function, Reference};
 
 // A byte that is not listed acts as 0.
+#[tactic(auto, unfolding(model::specs::Settings::function_of))]
 pub fn function_of(n: u8) -> Function
     ensures { result ≡ function_of n }
 {
@@ -25,25 +26,13 @@ pub fn function_of(n: u8) -> Function
 pub fn not_input(f: Function) -> bool
     ensures { result ≡ not_input f }
 {
-    match f {
-        Function::Input => false,
-        Function::Output => true,
-        Function::OneShot => true,
-        Function::DutyCycle => true,
-        Function::Timer => true,
-    }
+    !matches!(f, Function::Input)
 }
 
 pub fn is_special(f: Function) -> bool
     ensures { result ≡ is_special f }
 {
-    match f {
-        Function::Input => false,
-        Function::Output => false,
-        Function::OneShot => true,
-        Function::DutyCycle => true,
-        Function::Timer => true,
-    }
+    matches!(f, Function::OneShot | Function::DutyCycle | Function::Timer)
 }
 
 pub fn functions(ch: Channel) -> Function
@@ -89,28 +78,35 @@ pub fn has_reference(ch: Channel) -> bool
     is_set(ref_a(ch)) | is_set(ref_b(ch))
 }
 
+// Bit k of Enablebit.
+fn enables(k: usize, ch: Channel) -> bool
+    ensures { result ≡ bit k ch.config.enablebit }
+{
+    bit_of(u16::from(ch.config.enablebit), k)
+}
+
 pub fn simulates_input(ch: Channel) -> bool
     ensures { result ≡ simulates_input ch }
 {
-    ch.config.enablebit % 2 == 1
+    enables(0, ch)
 }
 
 pub fn simulates_feedback(ch: Channel) -> bool
     ensures { result ≡ simulates_feedback ch }
 {
-    ch.config.enablebit / 4 % 2 == 1
+    enables(2, ch)
 }
 
 pub fn enables_underload(ch: Channel) -> bool
     ensures { result ≡ enables_underload ch }
 {
-    ch.config.enablebit / 32 % 2 == 1
+    enables(5, ch)
 }
 
 pub fn silences_overload(ch: Channel) -> bool
     ensures { result ≡ silences_overload ch }
 {
-    ch.config.enablebit / 64 % 2 == 1
+    enables(6, ch)
 }
 
 // Bit k of a word; a u16 has none above 15.
@@ -142,6 +138,7 @@ pub fn level_of(levels: u16, r: Reference) -> bool
     }
 }
 
+#[tactic(auto, unfolding(model::specs::Settings::in_a))]
 pub fn in_a(levels: u16, ch: Channel) -> bool
     ensures { result ≡ in_a (levels_of levels) ch }
 {
@@ -151,6 +148,7 @@ pub fn in_a(levels: u16, ch: Channel) -> bool
     level_of(levels, ref_a(ch))
 }
 
+#[tactic(auto, unfolding(model::specs::Settings::in_b_of))]
 pub fn in_b(levels: u16, ch: Channel) -> bool
     ensures { result ≡ in_b_of (levels_of levels) ch }
 {
@@ -160,6 +158,7 @@ pub fn in_b(levels: u16, ch: Channel) -> bool
     level_of(levels, ref_b(ch))
 }
 
+#[tactic(auto, unfolding(model::specs::Settings::output))]
 pub fn output(ch: Channel) -> bool
     ensures { result ≡ output ch }
 {

@@ -1,6 +1,0 @@
-use Rattle.model.specs.Tick.{judged}
-use Rattle.review.proofs.judge.Goals as goal
-
-pub returns : goal.returns
-unfolding judged
-returns c = simp (c.join.ensures, c.find-act.ensures)
