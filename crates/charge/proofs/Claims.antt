@@ -22,10 +22,9 @@ use Rattle.model.specs.declared.Refusal.TheVariants.{Beyond, Unlisted, NotWritab
 use Rattle.model.specs.declared.Refusal.TheVariants.{NoChannel, NotFinite, ImageLength, ImageCounts, ImageSum, ImageValues, NoRoom, NoTable, NotMinute, TooManyWindows}
 use Rattle.model.specs.Questions.{refusal_number}
 use Rattle.model.proofs.Laws.Tests.{both, by-test}
-use Rattle.charge.specs.declared.Charged.{Charged}
 use Rattle.charge.specs.declared.Tariff.{Tariff}
 use Rattle.charge.specs.Charge.{limits_of, prices_of, pulses, litres, filled, priced, hundredths, rounded}
-use Rattle.charge.specs.Charge.{question16, question17, rising, prices_allowed, refused, charged}
+use Rattle.charge.specs.Charge.{question16, question17, rising, prices_allowed, Charged, refused, charged}
 use Rattle.charge.specs.Claims.{total, after_rises, price_of, litre_by_litre, all_at, one_block, Charges}
 use Rattle.charge.proofs.Laws.Blocks.{parts, upward, upward-rising, litres-held, most}
 use Rattle.charge.proofs.Laws.Tariffs.{accepted, one_more}

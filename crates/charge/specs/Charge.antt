@@ -1,8 +1,9 @@
 -- Document 02, Change 4, 2 to 5, 7 and 8: the charge for the water between two Counter values, in whole numbers of any size. x - y is 0 where y is the larger.
 -- Definitions only.
-use Rattle.std.specs.Prelude.{Bool, true, cond, ◌&&◌, List, [], ◌∷◌, ℕ, ◌+◌, ◌*◌, ◌-◌, ◌/◌, min, leb, ltb, ℤ, ◌-ℤ◌, take}
+use Rattle.std.specs.Prelude.{Bool, true, cond, ◌&&◌, List, [], ◌∷◌, ℕ, ◌+◌, ◌*◌, ◌-◌, ◌/◌, min, leb, ltb, ℤ, ◌-ℤ◌, take, Result, Ok, Err}
 use Rattle.integers.specs.Integers.{modulo}
-use Rattle.charge.specs.declared.Charged.{Charged}
+use Rattle.charge.specs.declared.ChargeRefusal.{ChargeRefusal}
+use Rattle.charge.specs.declared.ChargeRefusal.TheVariants.{LitresPerPulse, Blocks}
 use Rattle.charge.specs.declared.Tariff.{Tariff}
 
 -- Change 4, 2: the upper limits of all blocks but the last, and the prices of all. What stands past the count of blocks is not looked at
@@ -61,7 +62,11 @@ prices_allowed (p ∷ ps) = leb p 100000 && prices_allowed ps
 abbrev pub question17 : Tariff → Bool
 question17 t = (leb 1 t.blocks && leb t.blocks 4) && (rising (limits_of t) && prices_allowed (prices_of t))
 
--- ---- the answer: its number, and the cents, 0 where it is refused
+-- ---- the answer: its number, 0 or 16 or 17, and the cents, 0 where it is refused
+pub record Charged : Type 0 where
+  pub number : ℕ
+  pub cents : ℕ
+
 abbrev pub refused : ℕ → Charged
 refused number = record { number = number; cents = 0 }
 
@@ -70,3 +75,12 @@ charged earlier later perPulse t =
     cond (question16 perPulse)
     (cond (question17 t) (record { number = 0; cents = rounded (hundredths (litres earlier later perPulse) t) }) (refused 17))
     (refused 16)
+
+-- ---- what the code answers: the cents, or why there are none
+abbrev pub number_of : ChargeRefusal → ℕ
+number_of LitresPerPulse = 16
+number_of Blocks = 17
+
+abbrev pub answer : Result ℕ ChargeRefusal → Charged
+answer (Ok cents) = record { number = 0; cents = cents }
+answer (Err why) = refused (number_of why)

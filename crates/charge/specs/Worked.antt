@@ -1,9 +1,8 @@
 -- Charges worked out by hand from document 02, Change 4: what every rule comes to, and a refusal of each kind. Sums are in hundredths of a cent. The proofs, by
 -- computing, are in proofs/Worked.antt.
 use Rattle.std.specs.Prelude.{◌≡◌, [], ◌∷◌, ℕ, pos, neg_ℤ}
-use Rattle.charge.specs.declared.Charged.{Charged}
 use Rattle.charge.specs.declared.Tariff.{Tariff}
-use Rattle.charge.specs.Charge.{block_litres, charged}
+use Rattle.charge.specs.Charge.{block_litres, Charged, charged}
 
 -- the tariffs, by their blocks, limits and prices
 abbrev pub one : ℕ → Tariff

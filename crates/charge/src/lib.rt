@@ -1,18 +1,17 @@
 // The charge for the water between two readings of a Counter, for the office program: a library above
 // the box. Of the box it names public functions and what their contracts show, and nothing of how it
-// is made; whole numbers it takes from `integers`. No public function asks anything of its caller.
+// is made. No public function asks anything of its caller.
 #![tactic(auto)]
 
-ghost use Rattle.std.specs.Prelude.{◌≡◌, true, suc, ◌≤◌, min, length};
-ghost use Rattle.charge.specs.Charge.{pulses, filled, priced, hundredths, rounded, rising, prices_allowed, question17, refused, charged};
+ghost use Rattle.std.specs.Prelude.{◌≡◌, true, false, suc, ◌≤◌, length, IfOk, IfErr};
+ghost use Rattle.charge.specs.Charge.{limits_of, prices_of, pulses, filled, priced, hundredths, rounded, rising, prices_allowed, question17, number_of, answer, charged};
 ghost use Rattle.charge.specs.Claims.{most_litres, most_hundredths};
 
 pub mod readings;
 
-use integers::signed;
-
 // The blocks in order: how many there are, the upper limits in litres of all but the last, and the
-// prices in hundredths of a cent per litre. Limits and prices past the count are not looked at.
+// prices in hundredths of a cent per litre. Limits and prices past the count are not looked at. The
+// count stands beside arrays because the exported function `pd3120_charge` is given these three.
 #[derive(Clone, Copy)]
 pub struct Tariff {
     pub blocks: u32,
@@ -20,11 +19,23 @@ pub struct Tariff {
     pub prices: [u32; 4],
 }
 
-// 0 and the cents, or 16 or 17 and no cents.
-#[derive(Clone, Copy)]
-pub struct Charged {
-    pub number: u8,
-    pub cents: u64,
+// Why a charge is refused.
+#[derive(Clone, Copy, Debug, PartialEq, Eq)]
+pub enum ChargeRefusal {
+    LitresPerPulse,
+    Blocks,
+}
+
+impl ChargeRefusal {
+    // Its number in document 02.
+    pub fn number(self) -> u8
+        ensures { result ≡ number_of self }
+    {
+        match self {
+            ChargeRefusal::LitresPerPulse => 16,
+            ChargeRefusal::Blocks => 17,
+        }
+    }
 }
 
 const MOST_BLOCKS: u32 = 4;
@@ -36,114 +47,83 @@ const MOST_LITRES_PER_PULSE: u32 = 10000;
 fn pulses_between(earlier: i32, later: i32) -> u32
     ensures { result ≡ pulses earlier later }
 {
-    signed::bits_of_i32(signed::wrapping_sub_i32(later, earlier))
+    later.wrapping_sub(earlier).cast_unsigned()
 }
 
 // Each above the one before.
 fn limits_rise(limits: &[u64]) -> bool
     ensures { result ≡ rising limits.now }
 {
-    let mut i = 0;
-    while i + 1 < limits.len() {
-        if limits[i + 1] <= limits[i] {
-            return false;
-        }
-        i += 1;
-    }
-    true
+    limits.is_sorted_by(|a, b| a < b)
 }
 
 fn prices_allowed(prices: &[u32]) -> bool
     ensures { result ≡ prices_allowed prices.now }
 {
-    for i in 0..prices.len() {
-        if HIGHEST_PRICE < prices[i] {
-            return false;
+    prices.iter().all(|p| *p <= HIGHEST_PRICE)
+}
+
+// The blocks of a tariff that question 17 allows: a price for each, and a limit for each but the
+// last.
+#[derive(Clone, Copy)]
+struct AllowedBlocks<'a> {
+    limits: &'a [u64],
+    prices: &'a [u32],
+    ghost rise: { rising limits.now ≡ true },
+    ghost cheap: { prices_allowed prices.now ≡ true },
+    ghost one_more: { length prices.now ≡ suc (length limits.now) },
+}
+
+impl AllowedBlocks<'_> {
+    fn of(t: &Tariff) -> Result<AllowedBlocks<'_>, ChargeRefusal>
+        ensures allowed { IfOk result (λ b. (question17 t.now ≡ true) × (b.limits.now ≡ limits_of t.now) × (b.prices.now ≡ prices_of t.now)) }
+        ensures refused { IfErr result (λ e. (question17 t.now ≡ false) × (e ≡ ChargeRefusal.Blocks)) }
+    {
+        if t.blocks < 1 || MOST_BLOCKS < t.blocks {
+            return Err(ChargeRefusal::Blocks);
         }
+        let n = t.blocks as usize;
+        let limits = &t.limits[..n - 1];
+        let prices = &t.prices[..n];
+        if !limits_rise(limits) || !prices_allowed(prices) {
+            return Err(ChargeRefusal::Blocks);
+        }
+        Ok(AllowedBlocks { limits, prices })
     }
-    true
-}
 
-fn tariff_allowed(t: Tariff) -> bool
-    ensures { result ≡ question17 t }
-{
-    if t.blocks < 1 {
-        return false;
-    }
-    if MOST_BLOCKS < t.blocks {
-        return false;
-    }
-    let n = t.blocks as usize;
-    let limits = t.limits;
-    let prices = t.prices;
-    limits_rise(&limits[0..n - 1]) & prices_allowed(&prices[0..n])
-}
-
-fn smaller(a: u64, b: u64) -> u64
-    ensures { result ≡ min a b }
-{
-    if a < b { a } else { b }
-}
-
-// The litres fill the blocks in order; the last takes what is left.
-fn fill(litres: u64, limits: &[u64], prices: &[u32]) -> u64
-    requires litres_le_most_litres { litres ≤ most_litres }
-    requires limits_value { rising limits.now ≡ true }
-    requires prices_value { prices_allowed prices.now ≡ true }
-    requires prices_len { length prices.now ≡ suc (length limits.now) }
-    ensures { (result ≡ priced (filled litres 0 limits.now) prices.now) × (result ≤ most_hundredths) }
-{
-    let mut left = litres;
-    let mut before = 0;
-    let mut sum = 0;
-    for i in 0..limits.len() {
-        let limit = limits[i];
-        let taken = smaller(left, limit - before);
-        sum += taken * (prices[i] as u64);
-        left -= taken;
-        before = limit;
-    }
-    sum + left * (prices[limits.len()] as u64)
-}
-
-// Rounded once, half upward.
-fn cents_for(litres: u64, t: Tariff) -> u64
-    requires litres_le_most_litres { litres ≤ most_litres }
-    requires t_value { question17 t ≡ true }
-    ensures { result ≡ rounded (hundredths litres t) }
-{
-    let n = t.blocks as usize;
-    let limits = t.limits;
-    let prices = t.prices;
-    (fill(litres, &limits[0..n - 1], &prices[0..n]) + 50) / 100
-}
-
-fn refuse(number: u8) -> Charged
-    ensures { result ≡ refused number }
-{
-    Charged {
-        number: number,
-        cents: 0,
+    // The litres fill the blocks in order; the last takes what is left.
+    fn fill(&self, litres: u64) -> u64
+        requires { litres ≤ most_litres }
+        ensures { (result ≡ priced (filled litres 0 self.now.limits.now) self.now.prices.now) × (result ≤ most_hundredths) }
+    {
+        let mut left = litres;
+        let mut before = 0;
+        let mut sum = 0;
+        for (limit, price) in self.limits.iter().zip(self.prices) {
+            let taken = left.min(*limit - before);
+            sum += taken * (*price as u64);
+            left -= taken;
+            before = *limit;
+        }
+        sum + left * (self.prices[self.limits.len()] as u64)
     }
 }
 
-// The charge for the pulses from the earlier Counter to the later one.
-pub fn charge(earlier: i32, later: i32, litres_per_pulse: u32, t: Tariff) -> Charged
-    ensures { result ≡ charged earlier later litres_per_pulse t }
+// The charge in cents for the pulses from the earlier Counter to the later one, rounded once, half
+// upward.
+pub fn charge(
+    earlier: i32,
+    later: i32,
+    litres_per_pulse: u32,
+    t: Tariff,
+) -> Result<u64, ChargeRefusal>
+    ensures { answer result ≡ charged earlier later litres_per_pulse t }
 {
-    if litres_per_pulse < 1 {
-        return refuse(16);
+    if litres_per_pulse < 1 || MOST_LITRES_PER_PULSE < litres_per_pulse {
+        return Err(ChargeRefusal::LitresPerPulse);
     }
-    if MOST_LITRES_PER_PULSE < litres_per_pulse {
-        return refuse(16);
-    }
-    if !tariff_allowed(t) {
-        return refuse(17);
-    }
+    let blocks = AllowedBlocks::of(&t)?;
     let pulses = pulses_between(earlier, later);
     let litres = (pulses as u64) * (litres_per_pulse as u64);
-    Charged {
-        number: 0,
-        cents: cents_for(litres, t),
-    }
+    Ok((blocks.fill(litres) + 50) / 100)
 }

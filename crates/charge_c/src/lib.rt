@@ -22,18 +22,19 @@ pub extern "C" fn pd3120_charge(
 ) -> u32
     ensures { answer_of result cents.new ≡ charged earlier later litres_per_pulse (tariff_of blocks limits.now prices.now) }
 {
-    let held_limits = *limits;
-    let held_prices = *prices;
-    let done = charge::charge(
-        earlier,
-        later,
-        litres_per_pulse,
-        Tariff {
-            blocks: blocks,
-            limits: held_limits,
-            prices: held_prices,
-        },
-    );
-    *cents = done.cents;
-    done.number as u32
+    let tariff = Tariff {
+        blocks,
+        limits: *limits,
+        prices: *prices,
+    };
+    match charge::charge(earlier, later, litres_per_pulse, tariff) {
+        Ok(sum) => {
+            *cents = sum;
+            0
+        }
+        Err(why) => {
+            *cents = 0;
+            why.number() as u32
+        }
+    }
 }

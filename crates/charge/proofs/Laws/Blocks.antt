@@ -2,12 +2,12 @@
 use mathlib.Core.Path.{◌≡◌, refl, sym, ap, ◌∙◌}
 use mathlib.Core.Bool.{Bool, true, ◌&&◌}
 use mathlib.Core.List.{List, [], ◌∷◌}
+use mathlib.Core.Logic.{◌⊎◌, inl, inr}
 use Prim.Native.Nat.{ℕ, suc, ◌+◌, ◌*◌, ◌-◌, ◌<◌, ◌≤◌, min, zero-le}
 use native.Mathlib.Nat.{zero-add, sub-zero, mul-le-mul_left}
 use native.Mathlib.Omega.{arith}
 use lib.Dec.{leb, ltb, leb-zero}
-use lib.ListN.{length, drop, get_or}
-use lib.Seq.{drop-cons, drop-length}
+use lib.ListN.{length, get_or}
 use borrow.Author.Tests.{leb-true, ltb-true, le-leb}
 use Rattle.model.proofs.Laws.Tests.{both}
 use Rattle.charge.specs.Charge.{filled, priced, rising_from, rising, prices_allowed}
@@ -63,40 +63,56 @@ bound n before (l ∷ ls) (p ∷ ps) u e =
 pub most : (n : ℕ) (ls ps : List ℕ) → n ≤ most_litres → rising ls ≡ true → prices_allowed ps ≡ true → priced (filled n 0 ls) ps ≤ most_hundredths
 most n ls ps h r e = omega (arith, h, bound n 0 ls ps (upward-rising ls r) e)
 
--- ---- a loop over the blocks: before block i, `left` litres of n lie above `before`, the limit before it, and the blocks so far cost `sum`
-pub record Turn (ls ps : List ℕ) (n i left before sum : ℕ) : Type 0 where
-  pub above : upward before (drop i ls) ≡ true
+-- ---- a loop over the blocks: where ls and ps are the limits and prices that are left, `left` litres of n lie above `before`, the limit before them, and the blocks
+-- so far cost `sum` of `all`. The price p is the last
+pub record Turn (ls ps : List ℕ) (p n left before sum all : ℕ) : Type 0 where
+  pub above : upward before ls ≡ true
+  pub one_more : length ps ≡ suc (length ls)
+  pub final : get_or ps (length ls) 0 ≡ p
   pub remaining : left ≡ n - before
-  pub rest : sum + priced (filled n before (drop i ls)) (drop i ps) ≡ priced (filled n 0 ls) ps
+  pub rest : sum + priced (filled n before ls) ps ≡ all
+  pub bounded : all ≤ most_hundredths
 
-pub first : (ls ps : List ℕ) (n : ℕ) → rising ls ≡ true → Turn ls ps n 0 n 0 0
-first ls ps n e = record { above = upward-rising ls e; remaining = sym (sub-zero n); rest = zero-add _ }
+pub first : (ls ps : List ℕ) (n : ℕ) → n ≤ most_litres → rising ls ≡ true → prices_allowed ps ≡ true → length ps ≡ suc (length ls)
+    → Turn ls ps (get_or ps (length ls) 0) n n 0 0 (priced (filled n 0 ls) ps)
+first ls ps n h r a e =
+    record {
+      above = upward-rising ls r;
+      one_more = e;
+      final = refl;
+      remaining = sym (sub-zero n);
+      rest = zero-add _;
+      bounded = most n ls ps h r a;
+    }
 
 -- a block with a limit
-pub record Next (ls ps : List ℕ) (n i left before sum : ℕ) : Type 0 where
-  pub room : before ≤ get_or ls i 0
-  pub turn : Turn ls ps n (suc i) (left - min left (get_or ls i 0 - before)) (get_or ls i 0) (sum + min left (get_or ls i 0 - before) * get_or ps i 0)
+pub record Next (l : ℕ) (ls : List ℕ) (q : ℕ) (ps : List ℕ) (p n left before sum all : ℕ) : Type 0 where
+  pub room : before ≤ l
+  pub turn : Turn ls ps p n (left - min left (l - before)) l (sum + min left (l - before) * q) all
 
-pub next : (ls ps : List ℕ) (n i left before sum : ℕ) → length ps ≡ suc (length ls) → i < length ls → Turn ls ps n i left before sum
-    → Next ls ps n i left before sum
-next ls ps n i left before sum e h t =
-    let l = get_or ls i 0 in
-    let (a, b) = both (leb before l) (upward l (drop (suc i) ls)) (rw (drop-cons ls i 0 h) at t.above) in
+pub next : (l : ℕ) (ls : List ℕ) (q : ℕ) (ps : List ℕ) (p n left before sum all : ℕ) → Turn (l ∷ ls) (q ∷ ps) p n left before sum all
+    → Next l ls q ps p n left before sum all
+next l ls q ps p n left before sum all t =
+    let (a, b) = both (leb before l) (upward l ls) t.above in
     let room = leb-true before l a in
     let left_is = t.remaining in
-    let r = rw (drop-cons ls i 0 h, drop-cons ps i 0 (omega arith)) at t.rest in
     let part : min left (l - before) ≡ min n l - before = ap (λ (x : ℕ). min x (l - before)) left_is ∙ part_of n before l room in
     record {
       room = room;
       turn = record {
         above = b;
+        one_more = omega (arith, t.one_more);
+        final = t.final;
         remaining = ap (λ (x : ℕ). x - min x (l - before)) left_is ∙ left-of n before l room;
-        rest = rw part (omega (arith, r));
+        rest = rw part (omega (arith, t.rest));
+        bounded = t.bounded;
       };
     }
 
--- the last block
-pub last : (ls ps : List ℕ) (n i left before sum : ℕ) → length ps ≡ suc (length ls) → i ≡ length ls → Turn ls ps n i left before sum
-    → sum + left * get_or ps (length ls) 0 ≡ priced (filled n 0 ls) ps
-last ls ps n i left before sum e at t =
-    let r = rw (at, drop-length ls, drop-cons ps (length ls) 0 (omega arith)) at t.rest in rw t.remaining (omega (arith, r))
+-- the last block: no limit is left, since there is a price more
+pub last : {A B : Type 0} (ls ps : List ℕ) (p n left before sum all : ℕ) → (A → length ls ≡ 0) → (B → length ps ≡ 0) → A ⊎ B
+    → Turn ls ps p n left before sum all → sum + left * p ≡ all
+last [] [] p n left before sum all f g e t = absurd (omega (arith, t.one_more))
+last [] (q ∷ ps) p n left before sum all f g e t = rw (t.remaining, sym t.final) (omega (arith, t.rest))
+last (l ∷ ls) ps p n left before sum all f g (inl a) t = absurd (omega (arith, f a))
+last (l ∷ ls) ps p n left before sum all f g (inr b) t = absurd (omega (arith, g b, t.one_more))

@@ -1,29 +1,31 @@
--- What the loops over limits and prices have still to look at. Assumes nothing.
-use mathlib.Core.Path.{◌≡◌, refl, sym, ap, ◌∙◌}
-use mathlib.Core.Bool.{Bool, true, ◌&&◌}
-use mathlib.Core.List.{List, [], ◌∷◌}
-use Prim.Native.Nat.{ℕ, zero, suc, ◌<◌, ◌≤◌}
-use native.Mathlib.Nat.{le_of_suc-le-suc, not-suc-le-zero}
-use native.Mathlib.Omega.{arith}
-use lib.Dec.{leb, ltb}
-use lib.ListN.{length, drop, get_or}
-use lib.Seq.{drop-cons}
-use Rattle.charge.specs.Charge.{rising, prices_allowed}
+-- What the library's questions of a whole slice come to, for limits and prices. Assumes nothing.
+use Rattle.std.proofs.Common.{◌≡◌, ℕ, zero, suc, ◌<◌, Bool, true, false, ◌&&◌, leb, ltb, List, [], ◌∷◌, length, get_or, refl, sym, ap, ◌∙◌, arith}
+use native.Mathlib.Numerals.{add-one}
+use Rattle.std.specs.List.{list_all, IsAllAdjacentAnswer}
+use Rattle.charge.specs.Charge.{rising_from, rising, prices_allowed}
 
-pub rising-more : (ls : List ℕ) (i : ℕ) (b : Bool) → suc i < length ls → ltb (get_or ls i 0) (get_or ls (suc i) 0) ≡ b
-    → rising (drop i ls) ≡ b && rising (drop (suc i) ls)
-rising-more ls i b h e =
-    let next = drop-cons ls (suc i) 0 h in
-    ap rising (drop-cons ls i 0 (omega arith)) ∙ ap (λ (ms : List ℕ). rising (get_or ls i 0 ∷ ms)) next
-    ∙ ap (λ (t : Bool). t && rising (get_or ls (suc i) 0 ∷ drop (suc (suc i)) ls)) e ∙ ap (λ (ms : List ℕ). b && rising ms) (sym next)
+pub prices-all : (ps : List ℕ) → list_all (λ p. leb p 100000) ps ≡ prices_allowed ps
+prices-all [] = refl
+prices-all (p ∷ ps) = ap (λ (t : Bool). leb p 100000 && t) (prices-all ps)
 
-pub rising-end : (ls : List ℕ) (i : ℕ) → length ls ≤ suc i → rising (drop i ls) ≡ true
-rising-end [] zero h = refl
-rising-end [] (suc i) h = refl
-rising-end (l ∷ []) zero h = refl
-rising-end (l ∷ m ∷ ms) zero h = absurd (not-suc-le-zero (le_of_suc-le-suc h))
-rising-end (l ∷ ls) (suc i) h = rising-end ls i (le_of_suc-le-suc h)
+-- each limit and the next, by their places
+rises : (l : ℕ) (ls : List ℕ) → ((k : ℕ) → k < length ls → ltb (get_or (l ∷ ls) k 0) (get_or ls k 0) ≡ true) → rising_from l ls ≡ true
+rises l [] h = refl
+rises l (m ∷ ms) h =
+    ap (λ (t : Bool). t && rising_from m ms) (h 0 (omega arith)) ∙ rises m ms (λ k n. h (suc k) (omega (arith, n)))
 
-pub prices-more : (ps : List ℕ) (i : ℕ) (b : Bool) → i < length ps → leb (get_or ps i 0) 100000 ≡ b
-    → prices_allowed (drop i ps) ≡ b && prices_allowed (drop (suc i) ps)
-prices-more ps i b h e = ap prices_allowed (drop-cons ps i 0 h) ∙ ap (λ (t : Bool). t && prices_allowed (drop (suc i) ps)) e
+falls : (k l : ℕ) (ls : List ℕ) → k < length ls → ltb (get_or (l ∷ ls) k 0) (get_or ls k 0) ≡ false → rising_from l ls ≡ false
+falls k l [] n e = absurd (omega (arith, n))
+falls zero l (m ∷ ms) n e = ap (λ (t : Bool). t && rising_from m ms) e
+falls (suc k) l (m ∷ ms) n e =
+    ap (λ (t : Bool). ltb l m && t) (falls k m ms (omega (arith, n)) e) ∙ never (ltb l m)
+  where
+    never : (b : Bool) → (b && false) ≡ false
+    never true = refl
+    never false = refl
+
+pub rising-adjacent : (ls : List ℕ) (r : Bool) → IsAllAdjacentAnswer (λ x y b. b ≡ ltb x y) ls r → r ≡ rising ls
+rising-adjacent [] true h = refl
+rising-adjacent [] false (k, n, e) = absurd (omega (arith, n))
+rising-adjacent (l ∷ ls) true h = sym (rises l ls (λ k n. sym (rw add-one at (h k 0 (omega (arith, n))))))
+rising-adjacent (l ∷ ls) false (k, n, e) = sym (falls k l ls (omega (arith, n)) (sym (rw add-one at (e 0))))

@@ -12,13 +12,16 @@ use borrow.Author.Tests.{le-leb}
 use Rattle.integers.specs.Bytes.{bytes_of, signed_number, signed_bytes}
 use Rattle.integers.proofs.Claims.{come-back}
 use Rattle.model.specs.declared.Module.{Module}
+use Rattle.model.specs.declared.Refusal.{Refusal}
+use Rattle.model.specs.declared.Refusal.TheVariants.{Beyond, Unlisted, NotWritable, WrongLength, BufferTooShort, NotEnabled, NotAllowed}
+use Rattle.model.specs.declared.Refusal.TheVariants.{NoChannel, NotFinite, ImageLength, ImageCounts, ImageSum, ImageValues, NoRoom, NoTable, NotMinute, TooManyWindows}
 use Rattle.model.specs.Questions.{Reply}
 use Rattle.model.specs.declared.DigitalRegister.TheVariants.{Counter}
 use Rattle.model.specs.State.{channel_at}
 use Rattle.model.specs.Settings.{is_digital}
 use Rattle.model.specs.Registers.{Place, digital, place}
 use Rattle.model.specs.Reads.{bytes_read, digital_bytes}
-use Rattle.model.specs.Questions.{read_reply}
+use Rattle.model.specs.Questions.{refusal_number, read_reply}
 use Rattle.model.specs.Calls.{read, Stepped, then_preset, read_as, step, cleared}
 use Rattle.model.proofs.Laws.Tests.{range}
 use Rattle.model.proofs.Laws.Places.{digital-place}
@@ -55,3 +58,23 @@ four_bytes (a ∷ []) e = absurd (omega (arith, e))
 four_bytes (a ∷ b ∷ []) e = absurd (omega (arith, e))
 four_bytes (a ∷ b ∷ c ∷ []) e = absurd (omega (arith, e))
 four_bytes (a ∷ b ∷ c ∷ d ∷ x ∷ xs) e = absurd (omega (arith, e))
+
+-- no refusal has the number of what is done
+pub never_done : (r : Refusal) → refusal_number r ≡ 0 → ⊥
+never_done Beyond e = omega (arith, e)
+never_done Unlisted e = omega (arith, e)
+never_done NotWritable e = omega (arith, e)
+never_done WrongLength e = omega (arith, e)
+never_done BufferTooShort e = omega (arith, e)
+never_done NotEnabled e = omega (arith, e)
+never_done NotAllowed e = omega (arith, e)
+never_done NoChannel e = omega (arith, e)
+never_done NotFinite e = omega (arith, e)
+never_done ImageLength e = omega (arith, e)
+never_done ImageCounts e = omega (arith, e)
+never_done ImageSum e = omega (arith, e)
+never_done ImageValues e = omega (arith, e)
+never_done NoRoom e = omega (arith, e)
+never_done NoTable e = omega (arith, e)
+never_done NotMinute e = omega (arith, e)
+never_done TooManyWindows e = omega (arith, e)

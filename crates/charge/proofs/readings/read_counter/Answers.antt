@@ -13,16 +13,18 @@ use borrow.Author.Rules.{rules}
 use borrow.Author.Tests.{le-leb, lt-leb}
 use Rattle.charge.specs.Readings.{read_as, reading}
 use Rattle.charge.proofs.Laws.Held.{counter-held}
-use Rattle.charge.proofs.Laws.Readings.{counter-read, four_bytes}
+use Rattle.charge.proofs.Laws.Readings.{wire-read, counter-read, four_bytes, never_done}
+use Rattle.charge.proofs.readings.read_counter.Goals.{then-channel-lt1-via-then-channel-lt1, then-channel-lt1-via-else-channel-lt1+then-channel-gt16, in-Done, in-Refused}
 use Rattle.charge.proofs.readings.read_counter.Goals as goal
 
 pub returns-then-channel-lt1 : goal.returns-then-channel-lt1
 unfolding reading
-returns-then-channel-lt1 c = simp (c.refuse.ensures, lt-leb 1 _ c.if-channel-lt1.true)
-
-pub returns-then-channel-gt16 : goal.returns-then-channel-gt16
-unfolding reading
-returns-then-channel-gt16 c = simp (c.refuse-then-channel-gt16.ensures, le-leb 1 _ c.if-channel-lt1.false, lt-leb _ 16 c.if-channel-gt16.true)
+returns-then-channel-lt1 c =
+    elim c.then-channel-lt1.branch [
+      | then-channel-lt1-via-then-channel-lt1 w ↦ simp (lt-leb 1 _ w.if-channel-lt1.true)
+      | then-channel-lt1-via-else-channel-lt1+then-channel-gt16 w ↦
+          simp (le-leb 1 _ w.if-channel-lt1.false, lt-leb _ 16 w.if-channel-gt16.true)
+    ]
 
 pub returns : goal.returns
 unfolding reading
@@ -34,11 +36,17 @@ returns c =
     let to-16 = le-leb k 16 c.if-channel-gt16.false in
     let digital : is_digital k ≡ true = rw (from-1, to-16) refl in
     let r = c.read-done in
-    let bytes = r.new.buf in
-    let four : length bytes ≡ 4 = search rules in
-    let counter = c.i32_of_bytes in
-    let count : to_z w32 (of_z w32 counter.result) ≡ (channel_at m k).counter
-    = to_z-of_z w32 _ (record { sfits = counter.type_inv }) ∙ counter.ensures ∙ ap signed_number (four_bytes bytes four)
-    ∙ ap (λ (s : Stepped). signed_number s.answer.buffer) r.ensures
-    ∙ counter-read m k digital (counter-held m.channels _ (k - 1) start.well_formed.0.1.1.1.1.0.1.1) in
-    rw (digital, count, c.number.ensures) (ap (λ (s : Stepped). read_as s (channel_at m k).counter) r.ensures)
+    elim c.match-done.branch [
+      | in-Done w ↦
+          let bytes = r.new.buf in
+          let four : length bytes ≡ 4 = search rules in
+          let counter = w.i32_of_bytes in
+          let count : to_z w32 (of_z w32 counter.result) ≡ (channel_at m k).counter
+          = to_z-of_z w32 _ (record { sfits = counter.type_inv }) ∙ counter.ensures ∙ ap signed_number (four_bytes bytes four)
+          ∙ ap (λ (s : Stepped). signed_number s.answer.buffer) r.ensures
+          ∙ counter-read m k digital (counter-held m.channels _ (k - 1) start.well_formed.0.1.1.1.1.0.1.1) in
+          rw (digital, w.counter-is, count) (rw w.in-Done.is at (ap (λ (s : Stepped). read_as s (channel_at m k).counter) r.ensures))
+      | in-Refused w ↦
+          let number = ap (λ (s : Stepped). s.answer.number) (r.ensures ∙ wire-read m k digital) in
+          absurd (never_done w.in-Refused.why (rw w.in-Refused.is at number))
+    ]

@@ -1,4 +1,0 @@
-use Rattle.charge.proofs.readings.refuse.Goals as goal
-
-pub returns : goal.returns
-returns c = simp c.number.ensures
