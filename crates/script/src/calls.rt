@@ -79,16 +79,21 @@ pub fn parse_store(mut words: Words) -> Result<Line, Wrong> {
     Ok(Line::Store(length as usize))
 }
 
-pub fn parse_read(mut words: Words) -> Result<Line, Wrong> {
+// SWNO BYTES
+fn parse_wire(mut words: Words) -> Result<(u16, &[u8]), Wrong> {
     words.are(2)?;
     let swno = parameters::swno(words.word()?)?;
-    Ok(Line::Read(swno, byte_digits(words.word()?)?))
+    Ok((swno, byte_digits(words.word()?)?))
 }
 
-pub fn parse_write(mut words: Words) -> Result<Line, Wrong> {
-    words.are(2)?;
-    let swno = parameters::swno(words.word()?)?;
-    Ok(Line::Write(swno, byte_digits(words.word()?)?))
+pub fn parse_read(words: Words) -> Result<Line, Wrong> {
+    let (swno, lent) = parse_wire(words)?;
+    Ok(Line::Read(swno, lent))
+}
+
+pub fn parse_write(words: Words) -> Result<Line, Wrong> {
+    let (swno, bytes) = parse_wire(words)?;
+    Ok(Line::Write(swno, bytes))
 }
 
 pub fn parse_sample(mut words: Words) -> Result<Line, Wrong> {

@@ -1,11 +1,12 @@
 // The numbers among the words of a line.
-ghost use Rattle.std.specs.Prelude.{◌≤◌, length, IfOk};
+ghost use Rattle.std.specs.Prelude.{◌≤◌, IfOk};
 
 use crate::digits;
+use std::error::Error;
 use std::fmt;
 
 // Why a line is no call.
-#[derive(Clone, Copy, Debug, PartialEq, Eq)]
+#[derive(Clone, Copy, Debug)]
 pub enum Wrong {
     LineTooLong,
     UnknownCall,
@@ -32,22 +33,29 @@ impl fmt::Display for Wrong {
     }
 }
 
+impl Error for Wrong {}
+
+// The number that a word writes in digits of the base; `otherwise` where it has others.
+fn number(word: &[u8], base: u32, highest: u64, otherwise: Wrong) -> Result<u64, Wrong>
+    requires { (2 ≤ base) × (base ≤ 36) }
+    ensures { IfOk result (λ n. n ≤ highest) }
+{
+    if !digits::only_digits(word, base) {
+        return Err(otherwise);
+    }
+    digits::parse_number(word, base, highest).ok_or(Wrong::TooLarge)
+}
+
 pub fn decimal(word: &[u8], highest: u64) -> Result<u64, Wrong>
     ensures { IfOk result (λ n. n ≤ highest) }
 {
-    if !digits::only_digits(word, 10) {
-        return Err(Wrong::NotDecimal);
-    }
-    digits::parse_number(word, 10, highest).ok_or(Wrong::TooLarge)
+    number(word, 10, highest, Wrong::NotDecimal)
 }
 
 pub fn hexadecimal(word: &[u8], highest: u64) -> Result<u64, Wrong>
     ensures { IfOk result (λ n. n ≤ highest) }
 {
-    if !digits::only_digits(word, 16) {
-        return Err(Wrong::NotHexadecimal);
-    }
-    digits::parse_number(word, 16, highest).ok_or(Wrong::TooLarge)
+    number(word, 16, highest, Wrong::NotHexadecimal)
 }
 
 // A SWNo, which may have '$', "0x" or "0X" before its digits.

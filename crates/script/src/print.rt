@@ -1,29 +1,28 @@
-// Answers as text.
+// Text in a buffer, and answers as text.
 ghost use Rattle.std.specs.Prelude.{◌≤◌, length};
 
 use crate::digits;
 use std::fmt;
 
-// A text, which stands at the start of `out`; each method puts more behind it, as much as there is
-// room for.
+// A text at the start of a buffer. Each method puts more behind it, as much as there is room for. The
+// buffer is lent, so that it needs no heap.
 #[derive(Drop)]
 pub struct Text<'a> {
-    pub out: &'a mut [u8],
+    pub bytes: &'a mut [u8],
     pub len: usize,
-    ghost within: { len ≤ length out.now },
+    ghost within: { len ≤ length bytes.now },
 }
 
 // The character of a hexadecimal digit, of which only the low four bits count.
 fn glyph(d: u8) -> u8 {
-    let low = d % 16;
-    if low < 10 { b'0' + low } else { 87 + low }
+    b"0123456789abcdef"[usize::from(d % 16)]
 }
 
 impl Text<'_> {
     pub fn put(&mut self, text: &[u8]) {
-        let n = text.len().min(self.out.len() - self.len);
+        let n = text.len().min(self.bytes.len() - self.len);
         let end = self.len + n;
-        self.out[self.len..end].copy_from_slice(&text[..n]);
+        self.bytes[self.len..end].copy_from_slice(&text[..n]);
         self.len = end;
     }
 
@@ -40,13 +39,14 @@ impl Text<'_> {
         self.put(if bit { b" 1" } else { b" 0" });
     }
 
-    // A byte in hexadecimal digits, where there is room for both.
+    // A byte in hexadecimal digits, where there is room for both: `{:02x}` tests no room, and the edit
+    // writes_without_room says that this does.
     fn put_pair(&mut self, byte: u8) {
-        if self.out.len() - self.len < 2 {
+        if self.bytes.len() - self.len < 2 {
             return;
         }
-        self.out[self.len] = glyph(byte / 16);
-        self.out[self.len + 1] = glyph(byte);
+        self.bytes[self.len] = glyph(byte / 16);
+        self.bytes[self.len + 1] = glyph(byte);
         self.len += 2;
     }
 
