@@ -4,9 +4,10 @@ use integers::{bytes, signed};
 use model::{Module, Reply};
 use pd3120::{Answered, replies};
 use script::calls::Line;
-use script::charges::Charge;
+use script::charges::{Blocks, Charge};
 use script::parameters::Wrong;
 use script::print::Text;
+use std::fmt::Write;
 
 // NAME NUMBER
 fn put_head(text: &mut Text, name: &[u8], reply: Reply) {
@@ -79,10 +80,15 @@ fn put_outputs(text: &mut Text, m: Module) {
 
 // charge NUMBER CENTS. The charge itself is made here, since it asks nothing of the box.
 fn put_charge(text: &mut Text, c: Charge) {
+    let Blocks {
+        count,
+        limits,
+        prices,
+    } = c.blocks;
     let tariff = Tariff {
-        blocks: c.blocks.count,
-        limits: c.blocks.limits,
-        prices: c.blocks.prices,
+        blocks: count,
+        limits,
+        prices,
     };
     let charged = charge::charge(
         signed::i32_of_bits(c.earlier),
