@@ -3,7 +3,7 @@ ghost use Rattle.std.specs.Prelude.{◌≡◌};
 ghost use Rattle.charge.specs.Readings.{reading, shown};
 
 use integers::bytes;
-use model::{Module, Refusal, Reply};
+use model::{Module, Refusal};
 
 // Counter is register 2 of a channel.
 const COUNTER: u16 = 2;

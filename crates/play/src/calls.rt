@@ -2,13 +2,13 @@
 use model::{Call, Module, Reply};
 use numbers::reals;
 use pd3120::Answered;
-use script::calls::{Line, Parsed};
+use script::calls::Line;
 
 // A box, and an answer with no bits.
 fn plain(after: Module, reply: Reply) -> Answered {
     Answered {
-        after: after,
-        reply: reply,
+        after,
+        reply,
         data_error: false,
         general_error: false,
         real_bits: 0,
@@ -17,9 +17,7 @@ fn plain(after: Module, reply: Reply) -> Answered {
 
 fn power(image: &[u8]) -> Answered {
     let started = pd3120::power_up(image);
-    let after = started.after;
-    let reply = started.reply;
-    plain(after, reply)
+    plain(started.after, started.reply)
 }
 
 fn store(m: Module, lent: &mut [u8]) -> Answered {
@@ -37,58 +35,36 @@ fn make(
     lent: &mut [u8],
 ) -> Answered {
     let mut answered = plain(m, Ok(0));
-    let mut left = times;
-    while 0 < left {
-        let next = answered.after;
-        answered = pd3120::call(next, c, written, windows, lent);
-        left -= 1;
+    for _ in 0..times {
+        answered = pd3120::call(answered.after, c, written, windows, lent);
     }
     answered
 }
 
-// A call that writes no bytes.
-fn once(m: Module, c: Call, windows: &[u32], lent: &mut [u8]) -> Answered {
-    make(m, c, 1, b"", windows, lent)
+// A call that writes no bytes, and gives no channel its windows.
+fn once(m: Module, c: Call, lent: &mut [u8]) -> Answered {
+    make(m, c, 1, b"", &[], lent)
 }
 
-// A write lends nothing.
-fn write(m: Module, swno: u16, bytes: &[u8], windows: &[u32]) -> Answered {
-    let mut nothing = [0u8; 0];
-    make(m, Call::Write(swno), 1, bytes, windows, &mut nothing)
-}
-
-// bytes are the image, the written bytes or the lent buffer; windows are empty but for a line that
-// gives a channel its own.
-fn perform_line(m: Module, line: Line, windows: &[u32], bytes: &mut [u8]) -> Answered {
+// bytes are the image, the written bytes or the lent buffer.
+pub(crate) fn perform(m: Module, line: Line, bytes: &mut [u8]) -> Answered {
     match line {
-        Line::Empty => plain(m, Ok(0)),
-        Line::Error(_) => plain(m, Ok(0)),
-        Line::Power => power(bytes),
-        Line::Store => store(m, bytes),
-        Line::Read(swno) => once(m, Call::Read(swno), windows, bytes),
-        Line::Write(swno) => write(m, swno, bytes, windows),
+        // a charge is no call on the box, and the outputs are a question beside the calls
+        Line::Empty | Line::Charge(_) | Line::Outputs => plain(m, Ok(0)),
+        Line::Power(_) => power(bytes),
+        Line::Store(_) => store(m, bytes),
+        Line::Read(swno, _) => once(m, Call::Read(swno), bytes),
+        Line::Write(swno, _) => make(m, Call::Write(swno), 1, bytes, &[], &mut []),
         Line::Sample(channel, level, real) => {
             let amperes = reals::of_bits(real);
-            once(m, Call::Sample(channel, level, amperes), windows, bytes)
+            once(m, Call::Sample(channel, level, amperes), bytes)
         }
-        Line::LookUp(table, real) => {
-            once(m, Call::LookUp(table, reals::of_bits(real)), windows, bytes)
+        Line::LookUp(table, real) => once(m, Call::LookUp(table, reals::of_bits(real)), bytes),
+        Line::Tick(n) => make(m, Call::Tick, n, b"", &[], bytes),
+        Line::Minute(n) => once(m, Call::Minute(n), bytes),
+        Line::Windows(channel, windows) => {
+            let numbers = &windows.numbers[..windows.count];
+            make(m, Call::Windows(channel), 1, b"", numbers, bytes)
         }
-        Line::Tick(n) => make(m, Call::Tick, n, b"", windows, bytes),
-        // no call on the box
-        Line::Charge(_, _, _) => plain(m, Ok(0)),
-        Line::Minute(n) => once(m, Call::Minute(n), windows, bytes),
-        Line::Windows(channel) => once(m, Call::Windows(channel), windows, bytes),
-        // a question beside the calls
-        Line::Outputs => plain(m, Ok(0)),
     }
-}
-
-// Does what a line asks for, with its own windows.
-pub(crate) fn perform(m: Module, parsed: Parsed, bytes: &mut [u8]) -> Answered {
-    let line = parsed.line;
-    let windows = parsed.windows;
-    let numbers = windows.numbers;
-    let count = script::calls::window_count(windows);
-    perform_line(m, line, &numbers[0..count], bytes)
 }

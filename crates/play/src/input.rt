@@ -1,13 +1,13 @@
 // Standard input in pieces, cut into lines; and standard output, written when its buffer is half
 // full or the input has to be waited for.
-ghost use Rattle.std.specs.Prelude.{◌≤◌, ◌≡◌, length};
+ghost use Rattle.std.specs.Prelude.{◌≤◌, length, IfOk};
 
 use crate::{answers, calls};
 use model::Module;
-use script::calls::Parsed;
-use script::lines::LONGEST_LINE;
+use script::lines;
+use script::lines::{LONGEST_LINE, Parsed};
 use script::parameters::Wrong;
-use script::{lines, words};
+use script::print::Text;
 use std::io::Read;
 
 // No answer is longer than half the buffer: a line's bytes, and what `store` lends, bound it.
@@ -21,224 +21,105 @@ pub struct Player {
     pub long: bool,
 }
 
-// The player after a line, and the place after its answer.
-#[derive(Clone, Copy)]
-struct Next {
-    player: Player,
-    to: usize,
-}
-
-// Stops at the highest number, which no script reaches.
-fn next_number(n: u64) -> u64 {
-    if n == u64::MAX {
-        return n;
-    }
-    n + 1
-}
-
-// A line whose start was too long to be kept is too long, whatever is left of it.
-fn parse(number: u64, long: bool, line: &[u8], space: &mut [u8]) -> Parsed
-    ensures { result.n ≤ length space.new }
-{
-    if long {
-        return script::calls::wrong(Wrong::LineTooLong);
-    }
-    if number == 1 {
-        return lines::parse_first(line, space);
-    }
-    lines::parse(line, space)
-}
-
-fn run_line(p: Player, line: &[u8], space: &mut [u8], out: &mut [u8], at: usize) -> Next
-    requires { at ≤ length out.old }
-    ensures { result.to ≤ length out.new }
-{
-    let number = next_number(p.line);
-    let m = p.after;
-    let parsed = parse(number, p.long, line, space);
-    let n = parsed.n;
-    let answered = calls::perform(m, parsed, &mut space[0..n]);
-    let after = answered.after;
-    let reply = answered.reply;
-    let to = answers::put_answer(
-        out,
-        at,
-        parsed,
-        number,
-        after,
-        reply,
-        answered.data_error,
-        answered.general_error,
-        answered.real_bits,
-        &space[0..n],
-    );
-    next_line(after, number, to)
-}
-
-fn next_line(m: Module, number: u64, to: usize) -> Next
-    ensures { result.to ≡ to }
-{
-    let player = Player {
-        after: m,
-        line: number,
-        long: false,
-    };
-    Next {
-        player: player,
-        to: to,
-    }
-}
-
 // Where the answers cannot be written it says so, and the script goes on.
-fn write_out(rt: &(impl Print + Eprint), out: &[u8]) {
-    if rt.write_all(out).is_err() {
+fn write_out(rt: &(impl Print + Eprint), out: &mut Text) {
+    if rt.write_all(&out.bytes[..out.len]).is_err() {
         let _ = rt.eprintln("play: the answers could not be written");
     }
+    out.len = 0;
 }
 
-// Writes what is in out where it is half full, and answers where the output goes on.
-fn flush(rt: &(impl Print + Eprint), out: &[u8], to: usize) -> usize
-    requires { to ≤ length out.now }
-    ensures { result ≤ length out.now }
-{
-    if to < HALF {
-        return to;
-    }
-    write_out(rt, &out[0..to]);
-    0
+// Reads more behind the text that is there, and answers whether any came. A read that fails counts
+// as the input's end.
+fn fill(input: &mut impl Read, text: &mut Text) -> bool {
+    let n = input.read(&mut text.bytes[text.len..]).unwrap_or(0);
+    text.len += n;
+    0 < n
 }
 
-// The player after the lines of a text that have ended, and how many bytes those are.
-#[derive(Clone, Copy)]
-struct Ran {
-    player: Player,
-    used: usize,
-}
-
-fn run_lines(
-    rt: &(impl Print + Eprint),
-    p: Player,
-    text: &[u8],
-    space: &mut [u8],
-    out: &mut [u8],
-) -> Ran
-    ensures { result.used ≤ length text.now }
-{
-    let mut player = p;
-    let mut at = 0;
-    let mut to = 0;
-    while at < text.len() {
-        let end = words::find(text, at, b'\n');
-        if end == text.len() {
-            break;
+impl Player {
+    // A line whose start was too long to be kept is too long, whatever is left of it.
+    fn parse<'a>(&self, line: &'a [u8], space: &mut [u8]) -> Result<Parsed<'a>, Wrong>
+        ensures { IfOk result (λ p. p.n ≤ length space.new) }
+    {
+        if self.long {
+            return Err(Wrong::LineTooLong);
         }
-        let next = run_line(player, &text[at..end], space, out, to);
-        player = next.player;
-        let after = next.to;
-        to = flush(rt, out, after);
-        at = end + 1;
+        if self.line == 1 {
+            return lines::parse_first(line, space);
+        }
+        lines::parse(line, space)
     }
-    write_out(rt, &out[0..to]);
-    Ran {
-        player: player,
-        used: at,
-    }
-}
 
-// Reads more behind the bytes that are there, and answers how many there are then. A read that fails
-// counts as the input's end.
-fn fill(input: &mut impl Read, text: &mut [u8], have: usize) -> usize
-    requires { have ≤ length text.old }
-    ensures { (have ≤ result) × (result ≤ length text.new) }
-{
-    match input.read(&mut text[have..]) {
-        Ok(n) => have + n,
-        Err(_) => have,
+    fn run_line(&mut self, line: &[u8], space: &mut [u8], out: &mut Text) {
+        // no script reaches the highest number
+        self.line = self.line.saturating_add(1);
+        match self.parse(line, space) {
+            Ok(parsed) => {
+                let bytes = &mut space[..parsed.n];
+                let answered = calls::perform(self.after, parsed.line, bytes);
+                answers::put_answer(out, parsed.line, &answered, bytes);
+                self.after = answered.after;
+            }
+            Err(why) => answers::put_error(out, self.line, why),
+        }
+        self.long = false;
     }
-}
 
-// Moves the bytes from `from` to `end` to the start.
-fn move_down(text: &mut [u8], from: usize, end: usize)
-    requires { (from ≤ end) × (end ≤ length text.old) }
-{
-    let mut i = from;
-    while i < end {
-        text[i - from] = text[i];
-        i += 1;
+    // Runs the lines of a text that have ended, and answers how many bytes those are.
+    fn run_lines(
+        &mut self,
+        rt: &(impl Print + Eprint),
+        text: &[u8],
+        space: &mut [u8],
+        out: &mut Text,
+    ) -> usize
+        ensures { result ≤ length text.now }
+    {
+        let mut rest = text;
+        while let Some(end) = rest.iter().position(|b| *b == b'\n') {
+            self.run_line(&rest[..end], space, out);
+            if HALF <= out.len {
+                write_out(rt, out);
+            }
+            rest = &rest[end + 1..];
+        }
+        text.len() - rest.len()
     }
-}
 
-// The player after a turn, the bytes that wait, and whether more may come.
-#[derive(Clone, Copy)]
-pub struct Turn {
-    pub player: Player,
-    pub have: usize,
-    pub more: bool,
-}
+    // What is left of a text after its last line feed waits at the start, unless it is too long to be
+    // a line.
+    fn keep_rest(&mut self, text: &mut Text, used: usize)
+        requires { used ≤ text.old.len }
+    {
+        let rest = text.len - used;
+        if LONGEST_LINE < rest {
+            self.long = true;
+            text.len = 0;
+            return;
+        }
+        text.bytes.copy_within(used..text.len, 0);
+        text.len = rest;
+    }
 
-// The last line, which no line feed ends.
-fn finish(
-    rt: &(impl Print + Eprint),
-    p: Player,
-    text: &[u8],
-    space: &mut [u8],
-    out: &mut [u8],
-) -> Turn
-    ensures { result.have ≤ 0 }
-{
-    let last = run_line(p, text, space, out, 0);
-    let player = last.player;
-    let to = last.to;
-    write_out(rt, &out[0..to]);
-    Turn {
-        player: player,
-        have: 0,
-        more: false,
+    // Reads and runs what has come, and answers whether more may come.
+    pub(crate) fn take_turn(
+        &mut self,
+        input: &mut impl Read,
+        rt: &(impl Print + Eprint),
+        text: &mut Text,
+        space: &mut [u8],
+        out: &mut Text,
+    ) -> bool {
+        let more = fill(input, text);
+        if more {
+            let used = self.run_lines(rt, &text.bytes[..text.len], space, out);
+            self.keep_rest(text, used);
+        } else {
+            // the last line, which no line feed ends
+            self.run_line(&text.bytes[..text.len], space, out);
+        }
+        write_out(rt, out);
+        more
     }
-}
-
-// What is left of a text after its last line feed waits at the start, unless it is too long to be a
-// line.
-fn keep_rest(p: Player, text: &mut [u8], used: usize, full: usize) -> Turn
-    requires { (used ≤ full) × (full ≤ length text.old) }
-    ensures { result.have ≤ length text.new }
-{
-    let rest = full - used;
-    let mut player = p;
-    if LONGEST_LINE < rest {
-        player.long = true;
-        return Turn {
-            player: player,
-            have: 0,
-            more: true,
-        };
-    }
-    move_down(text, used, full);
-    Turn {
-        player: player,
-        have: rest,
-        more: true,
-    }
-}
-
-pub(crate) fn take_turn(
-    input: &mut impl Read,
-    rt: &(impl Print + Eprint),
-    p: Player,
-    text: &mut [u8],
-    have: usize,
-    space: &mut [u8],
-    out: &mut [u8],
-) -> Turn
-    requires { have ≤ length text.old }
-    ensures { result.have ≤ length text.new }
-{
-    let full = fill(input, text, have);
-    if full == have {
-        return finish(rt, p, &text[0..have], space, out);
-    }
-    let ran = run_lines(rt, p, &text[0..full], space, out);
-    let player = ran.player;
-    let used = ran.used;
-    keep_rest(player, text, used, full)
 }

@@ -8,12 +8,12 @@ mod input;
 
 use input::Player;
 use model::Module;
+use script::print::Text;
 use std::io::Read;
 
 // Before the first `power` the box is the one of a refused power-up.
 fn unpowered() -> Module {
-    let started = pd3120::power_up(b"");
-    started.after
+    pd3120::power_up(b"").after
 }
 
 // A proved loop has to end, and nothing says that the input does. So the turns are counted, up to a
@@ -30,12 +30,13 @@ fn play(
         line: 0,
         long: false,
     };
-    let mut have = 0;
+    let mut text = Text {
+        bytes: text,
+        len: 0,
+    };
+    let mut out = Text { bytes: out, len: 0 };
     for _ in 0..u64::MAX {
-        let turn = input::take_turn(input, rt, player, text, have, space, out);
-        player = turn.player;
-        have = turn.have;
-        if !turn.more {
+        if !player.take_turn(input, rt, &mut text, space, &mut out) {
             break;
         }
     }

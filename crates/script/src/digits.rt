@@ -1,74 +1,32 @@
 // Numbers and byte strings as digits.
-ghost use Rattle.std.specs.Prelude.{◌≡◌, ◌+◌, ◌<◌, ◌≤◌, length, take};
+ghost use Rattle.std.specs.Prelude.{◌≡◌, ◌+◌, ◌<◌, ◌≤◌, length, take, IfSome};
 ghost use Rattle.script.specs.Digits.{last_digits, IsDigitCount};
 
-// A digit's value; 16 for a byte that is no hexadecimal digit.
-fn value(b: u8) -> u8
-    ensures { result ≤ 16 }
-{
-    match b {
-        b'0'..=b'9' => b - b'0',
-        b'A'..=b'F' => b - 55,
-        b'a'..=b'f' => b - 87,
-        _ => 16,
-    }
-}
-
 // Whether a word has a digit and nothing but digits of the base.
-pub fn only_digits(word: &[u8], base: u8) -> bool {
-    let mut i = 0;
-    while i < word.len() {
-        if base <= value(word[i]) {
-            return false;
-        }
-        i += 1;
-    }
-    0 < i
-}
-
-// A number, and whether it is at most the highest allowed; 0 where it is not.
-#[derive(Clone, Copy)]
-pub struct Number {
-    pub fits: bool,
-    pub value: u64,
-}
-
-fn too_large() -> Number
-    ensures { result.value ≤ 0 }
+pub fn only_digits(word: &[u8], base: u32) -> bool
+    requires { (2 ≤ base) × (base ≤ 36) }
 {
-    Number {
-        fits: false,
-        value: 0,
-    }
+    !word.is_empty() && word.iter().all(|b| char::from(*b).is_digit(base))
 }
 
-// The number that a word of digits writes.
-pub(crate) fn parse_number(word: &[u8], base: u64, highest: u64) -> Number
-    requires { 1 ≤ base }
-    ensures { result.value ≤ highest }
+// The number that a word of digits writes, where it is at most the highest allowed.
+pub(crate) fn parse_number(word: &[u8], base: u32, highest: u64) -> Option<u64>
+    requires { (2 ≤ base) × (base ≤ 36) }
+    ensures { IfSome result (λ n. n ≤ highest) }
 {
-    let mut n: u64 = 0;
-    let mut i = 0;
-    while i < word.len() {
-        let digit = value(word[i]) as u64;
-        if highest / base < n {
-            return too_large();
-        }
-        if highest - n * base < digit {
-            return too_large();
-        }
-        n = n * base + digit;
-        i += 1;
+    let text = str::from_utf8(word).ok()?;
+    let n = u64::from_str_radix(text, base).ok()?;
+    if highest < n {
+        return None;
     }
-    Number {
-        fits: true,
-        value: n,
-    }
+    Some(n)
 }
 
-// The byte of two digits.
-fn byte(high: u8, low: u8) -> u8 {
-    (value(high) % 16) * 16 + value(low) % 16
+// The value of a hexadecimal digit, and 0 of any other byte.
+fn value(b: u8) -> u8
+    ensures { result < 16 }
+{
+    char::from(b).to_digit(16).unwrap_or(0) as u8
 }
 
 // The bytes that pairs of digits write, at the start of out, as many as there is room for; answers
@@ -76,30 +34,23 @@ fn byte(high: u8, low: u8) -> u8 {
 pub fn parse_bytes(word: &[u8], out: &mut [u8]) -> usize
     ensures { result ≤ length out.new }
 {
-    let mut n = 0;
-    let mut i = 0;
-    while i + 1 < word.len() {
-        if out.len() <= n {
-            return n;
-        }
-        out[n] = byte(word[i], word[i + 1]);
-        n += 1;
-        i += 2;
+    let (pairs, _) = word.as_chunks::<2>();
+    for (pair, byte) in pairs.iter().zip(out.iter_mut()) {
+        let [high, low] = *pair;
+        *byte = value(high) * 16 + value(low);
     }
-    n
+    pairs.len().min(out.len())
 }
 
 // How many decimal digits a number takes.
 fn digit_count(n: u64) -> usize
-    ensures { IsDigitCount n result }
+    ensures value { IsDigitCount n result }
+    ensures most { result ≤ 20 }
 {
-    let mut k = 1;
-    let mut rest = n / 10;
-    while 0 < rest {
-        rest /= 10;
-        k += 1;
+    match n.checked_ilog10() {
+        Some(k) => k as usize + 1,
+        None => 1,
     }
-    k
 }
 
 // The character of a decimal digit.
@@ -115,10 +66,8 @@ fn write_digits(n: u64, k: usize, out: &mut [u8])
     requires { k ≤ length out.old }
     ensures { take k out.new ≡ last_digits k n }
 {
-    let mut i = k;
     let mut rest = n;
-    while 0 < i {
-        i -= 1;
+    for i in (0..k).rev() {
         out[i] = character(rest % 10);
         rest /= 10;
     }

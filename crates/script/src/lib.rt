@@ -4,10 +4,10 @@
 #![tactic(auto)]
 
 pub mod calls;
-mod charges;
+pub mod charges;
 mod digits;
 pub mod lines;
 pub mod parameters;
 pub mod print;
-mod windows;
+pub mod windows;
 pub mod words;

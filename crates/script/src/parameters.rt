@@ -1,10 +1,12 @@
 // The numbers among the words of a line.
-ghost use Rattle.std.specs.Prelude.{◌≤◌, length};
+ghost use Rattle.std.specs.Prelude.{◌≤◌, IfOk};
 
-use crate::{digits, words};
+use crate::digits;
+use std::error::Error;
+use std::fmt;
 
 // Why a line is no call.
-#[derive(Clone, Copy)]
+#[derive(Clone, Copy, Debug)]
 pub enum Wrong {
     LineTooLong,
     UnknownCall,
@@ -16,87 +18,67 @@ pub enum Wrong {
     NotBit,
 }
 
-// A word's number, or why it is none.
-#[derive(Clone, Copy)]
-pub struct Parameter {
-    pub right: bool,
-    pub why: Wrong,
-    pub value: u64,
-}
-
-fn misread(why: Wrong) -> Parameter
-    ensures { result.value ≤ 0 }
-{
-    Parameter {
-        right: false,
-        why: why,
-        value: 0,
+impl fmt::Display for Wrong {
+    fn fmt<W: fmt::Write>(&self, f: &mut fmt::Formatter<W>) -> fmt::Result {
+        match self {
+            Wrong::LineTooLong => write!(f, "line too long"),
+            Wrong::UnknownCall => write!(f, "unknown call"),
+            Wrong::WordCount => write!(f, "wrong number of words"),
+            Wrong::NotHexadecimal => write!(f, "not a hexadecimal string"),
+            Wrong::OddDigits => write!(f, "odd number of hexadecimal digits"),
+            Wrong::NotDecimal => write!(f, "not a decimal number"),
+            Wrong::TooLarge => write!(f, "number too large"),
+            Wrong::NotBit => write!(f, "not 0 or 1"),
+        }
     }
 }
 
-fn number(word: &[u8], base: u64, highest: u64) -> Parameter
-    requires { 1 ≤ base }
-    ensures { result.value ≤ highest }
+impl Error for Wrong {}
+
+// The number that a word writes in digits of the base; `otherwise` where it has others.
+fn number(word: &[u8], base: u32, highest: u64, otherwise: Wrong) -> Result<u64, Wrong>
+    requires { (2 ≤ base) × (base ≤ 36) }
+    ensures { IfOk result (λ n. n ≤ highest) }
 {
-    let n = digits::parse_number(word, base, highest);
-    let value = n.value;
-    if n.fits {
-        return Parameter {
-            right: true,
-            why: Wrong::TooLarge,
-            value: value,
-        };
+    if !digits::only_digits(word, base) {
+        return Err(otherwise);
     }
-    misread(Wrong::TooLarge)
+    digits::parse_number(word, base, highest).ok_or(Wrong::TooLarge)
 }
 
-pub fn decimal(word: &[u8], highest: u64) -> Parameter
-    ensures { result.value ≤ highest }
+pub fn decimal(word: &[u8], highest: u64) -> Result<u64, Wrong>
+    ensures { IfOk result (λ n. n ≤ highest) }
 {
-    if digits::only_digits(word, 10) {
-        return number(word, 10, highest);
-    }
-    misread(Wrong::NotDecimal)
+    number(word, 10, highest, Wrong::NotDecimal)
 }
 
-pub fn hexadecimal(word: &[u8], highest: u64) -> Parameter
-    ensures { result.value ≤ highest }
+pub fn hexadecimal(word: &[u8], highest: u64) -> Result<u64, Wrong>
+    ensures { IfOk result (λ n. n ≤ highest) }
 {
-    if digits::only_digits(word, 16) {
-        return number(word, 16, highest);
-    }
-    misread(Wrong::NotHexadecimal)
+    number(word, 16, highest, Wrong::NotHexadecimal)
 }
 
-// Where the digits of a SWNo begin: after '$', "0x" or "0X", where one of these stands before them.
-fn digits_start(word: &[u8]) -> usize
-    ensures { result ≤ length word.now }
-{
-    if word.len() < 2 {
-        return 0;
-    }
-    if word[0] == b'$' {
-        return 1;
-    }
-    if words::same(&word[0..2], b"0x") | words::same(&word[0..2], b"0X") {
-        return 2;
-    }
-    0
-}
-
-pub fn swno(word: &[u8]) -> Parameter
-    ensures { result.value ≤ 65535 }
-{
-    let start = digits_start(word);
-    hexadecimal(&word[start..], 65535)
+// A SWNo, which may have '$', "0x" or "0X" before its digits.
+pub fn swno(word: &[u8]) -> Result<u16, Wrong> {
+    let digits = match word {
+        [b'$', digits @ ..] | [b'0', b'x' | b'X', digits @ ..] => digits,
+        _ => word,
+    };
+    Ok(hexadecimal(digits, 65535)? as u16)
 }
 
 // The eight digits of 32 bits: of a Real, or of a Counter as it is read.
-pub fn bits(word: &[u8]) -> Parameter
-    ensures { result.value ≤ 4294967295 }
-{
+pub fn bits(word: &[u8]) -> Result<u32, Wrong> {
     if word.len() != 8 {
-        return misread(Wrong::NotHexadecimal);
+        return Err(Wrong::NotHexadecimal);
     }
-    hexadecimal(word, 4294967295)
+    Ok(hexadecimal(word, 4294967295)? as u32)
+}
+
+pub(crate) fn bit(word: &[u8]) -> Result<bool, Wrong> {
+    match word {
+        b"0" => Ok(false),
+        b"1" => Ok(true),
+        _ => Err(Wrong::NotBit),
+    }
 }

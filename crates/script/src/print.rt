@@ -1,81 +1,70 @@
-// Answers as text: each function puts its text into out from `at` on, as much as there is room for,
-// and answers the place after it.
+// Text in a buffer, and answers as text.
 ghost use Rattle.std.specs.Prelude.{◌≤◌, length};
 
 use crate::digits;
+use std::fmt;
 
-pub fn put(out: &mut [u8], at: usize, text: &[u8]) -> usize
-    requires { at ≤ length out.old }
-    ensures { result ≤ length out.new }
-{
-    let mut to = at;
-    let mut i = 0;
-    while i < text.len() {
-        if out.len() <= to {
-            return to;
-        }
-        out[to] = text[i];
-        to += 1;
-        i += 1;
-    }
-    to
-}
-
-// A number in decimal digits, after a blank.
-pub fn put_number(out: &mut [u8], at: usize, n: u64) -> usize
-    requires { at ≤ length out.old }
-    ensures { result ≤ length out.new }
-{
-    let mut text = [0u8; 20];
-    let k = digits::decimal(n, &mut text);
-    let to = put(out, at, b" ");
-    put(out, to, &text[..k])
-}
-
-// A bit, as 0 or 1, after a blank.
-pub fn put_bit(out: &mut [u8], at: usize, bit: bool) -> usize
-    requires { at ≤ length out.old }
-    ensures { result ≤ length out.new }
-{
-    if bit {
-        return put(out, at, b" 1");
-    }
-    put(out, at, b" 0")
+// A text at the start of a buffer. Each method puts more behind it, as much as there is room for. The
+// buffer is lent, so that it needs no heap.
+#[derive(Drop)]
+pub struct Text<'a> {
+    pub bytes: &'a mut [u8],
+    pub len: usize,
+    ghost within: { len ≤ length bytes.now },
 }
 
 // The character of a hexadecimal digit, of which only the low four bits count.
 fn glyph(d: u8) -> u8 {
-    let low = d % 16;
-    if low < 10 { b'0' + low } else { 87 + low }
+    b"0123456789abcdef"[usize::from(d % 16)]
 }
 
-// Bytes in hexadecimal digits.
-fn put_pairs(out: &mut [u8], at: usize, bytes: &[u8]) -> usize
-    requires { at ≤ length out.old }
-    ensures { result ≤ length out.new }
-{
-    let mut to = at;
-    let mut i = 0;
-    while i < bytes.len() {
-        if out.len() - to < 2 {
-            return to;
+impl Text<'_> {
+    pub fn put(&mut self, text: &[u8]) {
+        let n = text.len().min(self.bytes.len() - self.len);
+        let end = self.len + n;
+        self.bytes[self.len..end].copy_from_slice(&text[..n]);
+        self.len = end;
+    }
+
+    // A number in decimal digits, after a blank.
+    pub fn put_number(&mut self, n: u64) {
+        let mut digits = [0u8; 20];
+        let k = digits::decimal(n, &mut digits);
+        self.put(b" ");
+        self.put(&digits[..k]);
+    }
+
+    // A bit, as 0 or 1, after a blank.
+    pub fn put_bit(&mut self, bit: bool) {
+        self.put(if bit { b" 1" } else { b" 0" });
+    }
+
+    // A byte in hexadecimal digits, where there is room for both: `{:02x}` tests no room, and the edit
+    // writes_without_room says that this does.
+    fn put_pair(&mut self, byte: u8) {
+        if self.bytes.len() - self.len < 2 {
+            return;
         }
-        out[to] = glyph(bytes[i] / 16);
-        out[to + 1] = glyph(bytes[i]);
-        to += 2;
-        i += 1;
+        self.bytes[self.len] = glyph(byte / 16);
+        self.bytes[self.len + 1] = glyph(byte);
+        self.len += 2;
     }
-    to
+
+    // A byte string after a blank; '-' where it is empty.
+    pub fn put_bytes(&mut self, bytes: &[u8]) {
+        if bytes.is_empty() {
+            return self.put(b" -");
+        }
+        self.put(b" ");
+        for byte in bytes {
+            self.put_pair(*byte);
+        }
+    }
 }
 
-// A byte string after a blank; '-' where it is empty.
-pub fn put_bytes(out: &mut [u8], at: usize, bytes: &[u8]) -> usize
-    requires { at ≤ length out.old }
-    ensures { result ≤ length out.new }
-{
-    if bytes.len() == 0 {
-        return put(out, at, b" -");
+impl fmt::Write for Text<'_> {
+    fn write_str(&mut self, text: &str) -> fmt::Result {
+        self.put(text.as_bytes());
+        Ok(())
     }
-    let to = put(out, at, b" ");
-    put_pairs(out, to, bytes)
 }

@@ -1,9 +1,20 @@
 // The words of the two calls of opening hours: minute N, and windows CH [START END]..
 ghost use Rattle.std.specs.Prelude.{◌≤◌};
 
-use crate::calls::{Line, Parsed, Windows};
+use crate::calls::Line;
+use crate::parameters;
 use crate::parameters::Wrong;
-use crate::{calls, parameters, words};
+use crate::words::Words;
+
+// The windows of a channel: how many there are, and each as the box takes it, its start in the high
+// half of the number and its end in the low half. A line has no more than sixteen, so that they need
+// no heap.
+#[derive(Clone, Copy)]
+pub struct Windows {
+    pub count: usize,
+    pub numbers: [u32; 16],
+    ghost within: { count ≤ 16 },
+}
 
 // CH, and up to sixteen pairs.
 const MOST_WORDS: usize = 33;
@@ -11,102 +22,30 @@ const MOST_WORDS: usize = 33;
 // Any number of 16 bits is read: which of them are minutes of a week is the box's own question.
 const HIGHEST: u64 = 65535;
 
-pub(crate) fn parse_minute(count: usize, word: &[u8]) -> Parsed
-    ensures { result.n ≤ 0 }
-{
-    if count != 1 {
-        return calls::wrong(Wrong::WordCount);
-    }
-    let minute = parameters::decimal(word, HIGHEST);
-    let why = minute.why;
-    if !minute.right {
-        return calls::wrong(why);
-    }
-    calls::plain(Line::Minute(minute.value as u16))
+pub(crate) fn parse_minute<'a>(mut words: Words) -> Result<Line<'a>, Wrong> {
+    words.are(1)?;
+    let minute = parameters::decimal(words.word()?, HIGHEST)?;
+    Ok(Line::Minute(minute as u16))
 }
 
-// A window as one number, or why a word of it is none.
-#[derive(Clone, Copy)]
-struct Window {
-    right: bool,
-    why: Wrong,
-    number: u32,
-}
-
-fn window_wrong(why: Wrong) -> Window {
-    Window {
-        right: false,
-        why: why,
-        number: 0,
-    }
-}
-
-fn take_window(first: &[u8], second: &[u8]) -> Window {
-    let start = parameters::decimal(first, HIGHEST);
-    let start_why = start.why;
-    if !start.right {
-        return window_wrong(start_why);
-    }
-    let end = parameters::decimal(second, HIGHEST);
-    let end_why = end.why;
-    if !end.right {
-        return window_wrong(end_why);
-    }
-    Window {
-        right: true,
-        why: end_why,
-        number: (start.value * 65536 + end.value) as u32,
-    }
-}
-
-// The line with so many windows of two words each.
-fn with_windows(channel: u8, text: &[u8], count: usize) -> Parsed
-    requires { count ≤ 16 }
-    ensures { result.n ≤ 0 }
-{
-    let mut numbers = [0u32; 16];
-    let mut from = 0;
-    let mut i = 0;
-    while i < count {
-        let first = words::skip(text, from, true);
-        let first_end = words::skip(text, first, false);
-        let second = words::skip(text, first_end, true);
-        let second_end = words::skip(text, second, false);
-        let window = take_window(&text[first..first_end], &text[second..second_end]);
-        let why = window.why;
-        if !window.right {
-            return calls::wrong(why);
-        }
-        numbers[i] = window.number;
-        from = second_end;
-        i += 1;
-    }
-    let windows = Windows {
-        count: count,
-        numbers: numbers,
-    };
-    Parsed {
-        line: Line::Windows(channel),
-        n: 0,
-        blocks: calls::no_blocks(),
-        windows: windows,
-    }
+// The two words of a window, as one number.
+fn take_window(words: &mut Words) -> Result<u32, Wrong> {
+    let start = parameters::decimal(words.word()?, HIGHEST)?;
+    let end = parameters::decimal(words.word()?, HIGHEST)?;
+    Ok((start * 65536 + end) as u32)
 }
 
 // The channel alone, or two words more for each window.
-pub(crate) fn parse_windows(count: usize, first: &[u8], after: &[u8]) -> Parsed
-    ensures { result.n ≤ 0 }
-{
-    if MOST_WORDS < count {
-        return calls::wrong(Wrong::WordCount);
+pub(crate) fn parse_windows<'a>(mut words: Words) -> Result<Line<'a>, Wrong> {
+    let all = words.count();
+    if MOST_WORDS < all || all % 2 == 0 {
+        return Err(Wrong::WordCount);
     }
-    if count % 2 == 0 {
-        return calls::wrong(Wrong::WordCount);
+    let channel = parameters::decimal(words.word()?, 255)?;
+    let count = all / 2;
+    let mut numbers = [0; 16];
+    for number in &mut numbers[..count] {
+        *number = take_window(&mut words)?;
     }
-    let channel = parameters::decimal(first, 255);
-    let why = channel.why;
-    if !channel.right {
-        return calls::wrong(why);
-    }
-    with_windows(channel.value as u8, after, count / 2)
+    Ok(Line::Windows(channel as u8, Windows { count, numbers }))
 }

@@ -1,72 +1,46 @@
 // The words of a line.
 ghost use Rattle.std.specs.Prelude.{◌≤◌, length};
+ghost use Rattle.std.specs.Iterator.{at_most};
 
-// The first place from `at` on where b stands, or the length.
-pub fn find(s: &[u8], at: usize, b: u8) -> usize
-    requires { at ≤ length s.now }
-    ensures { (at ≤ result) × (result ≤ length s.now) }
-{
-    let mut i = at;
-    while i < s.len() {
-        if s[i] == b {
-            return i;
-        }
-        i += 1;
-    }
-    i
-}
+use crate::parameters::Wrong;
 
 // A blank, a tab or a carriage return.
 fn separates(b: u8) -> bool {
-    match b {
-        b' ' | b'\t' | b'\r' => true,
-        _ => false,
+    matches!(b, b' ' | b'\t' | b'\r')
+}
+
+// The words of a text, of which it holds what is left.
+#[derive(Clone, Copy)]
+pub struct Words<'a>(pub &'a [u8]);
+
+impl<'a> Iterator for Words<'a> {
+    type Item = &'a [u8];
+
+    ghost remaining = { λ s. at_most (length s.0.now) };
+
+    fn next(&mut self) -> Option<&'a [u8]> {
+        let start = self.0.iter().position(|b| !separates(*b))?;
+        let rest = &self.0[start..];
+        // a word has at least one byte
+        let more = rest[1..].iter().position(|b| separates(*b));
+        let (word, after) = rest.split_at(more.map_or(rest.len(), |n| n + 1));
+        self.0 = after;
+        Some(word)
     }
 }
 
-// The first place from `at` on where separators, or else a word, have ended, or the length.
-pub(crate) fn skip(s: &[u8], at: usize, separators: bool) -> usize
-    requires { at ≤ length s.now }
-    ensures { (at ≤ result) × (result ≤ length s.now) }
-{
-    let mut i = at;
-    while i < s.len() {
-        if separates(s[i]) != separators {
-            return i;
+impl<'a> Words<'a> {
+    // Whether there are as many words left as a call takes.
+    pub(crate) fn are(self, many: usize) -> Result<(), Wrong> {
+        if self.count() != many {
+            return Err(Wrong::WordCount);
         }
-        i += 1;
+        Ok(())
     }
-    i
-}
 
-fn bit(b: bool) -> usize
-    ensures { result ≤ 1 }
-{
-    if b { 1 } else { 0 }
-}
-
-// How many words there are. A word begins at a byte of it that has none before it.
-pub(crate) fn count(s: &[u8]) -> usize {
-    let mut n = 0;
-    let mut inside = false;
-    for i in 0..s.len() {
-        let part = !separates(s[i]);
-        n += bit(part & !inside);
-        inside = part;
+    // The next word. Each word has a function of its own to read it, so words are not taken as an
+    // array; the borrow checker covers no array of references whose length is a parameter.
+    pub(crate) fn word(&mut self) -> Result<&'a [u8], Wrong> {
+        self.next().ok_or(Wrong::WordCount)
     }
-    n
-}
-
-pub fn same(a: &[u8], b: &[u8]) -> bool {
-    if a.len() != b.len() {
-        return false;
-    }
-    let mut i = 0;
-    while i < a.len() {
-        if a[i] != b[i] {
-            return false;
-        }
-        i += 1;
-    }
-    true
 }

@@ -1,8 +1,0 @@
-use native.Mathlib.Omega.{arith}
-use Rattle.script.proofs.calls.window_count.Goals as goal
-
-pub returns-then-count-lt16 : goal.returns-then-count-lt16
-returns-then-count-lt16 c = omega arith
-
-pub returns-else-count-lt16 : goal.returns-else-count-lt16
-returns-else-count-lt16 c = omega arith
