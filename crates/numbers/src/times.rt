@@ -8,6 +8,7 @@ ghost use Rattle.numbers.specs.Reals.{units_of, count_of, real_of, under};
 ghost use Rattle.numbers.specs.Written.{timer_allowed, operating_allowed};
 
 use counts::{OperatingCount, TimerCount};
+use std::cmp::Ordering;
 
 // Timer counts are in 1/2^8 s, operating counts in 1/2^3 s.
 const TIMER: u32 = 8;
@@ -27,25 +28,11 @@ fn nearest_quotient(n: u64, d: u64) -> u64
 {
     let q = n / d;
     let twice = n % d * 2;
-    if twice < d {
-        return q;
+    match twice.cmp(&d) {
+        Ordering::Less => q,
+        Ordering::Equal => q + q % 2,
+        Ordering::Greater => q + 1,
     }
-    if twice > d {
-        return q + 1;
-    }
-    if q % 2 == 0 {
-        return q;
-    }
-    q + 1
-}
-
-fn sign_bit(negative: bool) -> u32
-    ensures { result ≡ cond negative 2147483648 0 }
-{
-    if negative {
-        return SIGN;
-    }
-    0
 }
 
 // The Real nearest to n counts, a tie to the even last bit. The leading zeros of n give the exponent:
@@ -55,30 +42,20 @@ fn real_of(negative: bool, n: u32, unit: u32) -> f32
     requires { unit ≤ 8 }
     ensures { result ≡ round binary32 negative n (2 ^ unit) }
 {
-    let sign = sign_bit(negative);
+    let sign = u32::from(negative) * SIGN;
     if n == 0 {
         return f32::from_bits(sign);
     }
-    let zeros = u32::leading_zeros(n);
+    let zeros = n.leading_zeros();
     let digits = nearest_quotient((n as u64) << zeros, 256) as u32;
     f32::from_bits(sign + (157 - unit - zeros) * LEADING + digits)
-}
-
-// The magnitude of n, 2^31 at the least number.
-fn magnitude(n: i32) -> u32
-    ensures { result ≡ nat_abs n }
-{
-    if n < 0 {
-        return ((!n) as u32) + 1;
-    }
-    n as u32
 }
 
 pub fn timer_real(t: TimerCount) -> f32
     ensures { result ≡ real_of timer_units t.0 }
 {
     let n = t.0;
-    real_of(n < 0, magnitude(n), TIMER)
+    real_of(n < 0, n.unsigned_abs(), TIMER)
 }
 
 pub fn operating_real(t: OperatingCount) -> f32

@@ -5,16 +5,16 @@ use native.Mathlib.Omega.{arith}
 use lib.Dec.{T, lit<}
 use lib.Count.{count_leading_zeros, leading_le}
 use lib.Ieee.{binary32, nan_bits, of_bits}
-use Rattle.numbers.proofs.Laws.ToReal.{above_zero, moved-high, rounded-high, real-made, real-zero, zero_pattern, field_fits, pattern-fits, no-nan-made}
+use Rattle.numbers.proofs.Laws.ToReal.{sign-bit, above_zero, moved-high, rounded-high, real-made, real-zero, zero_pattern, field_fits, pattern-fits, no-nan-made}
 use Rattle.numbers.proofs.times.real_of.Goals as goal
 
 pub float_from_bits-result : goal.float_from_bits-result
-float_from_bits-result c = subst (λ (b : ℕ). T (not (nan_bits binary32 b))) (sym c.sign_bit-sign.ensures) (zero_pattern c.args.negative)
+float_from_bits-result c = subst (λ (b : ℕ). T (not (nan_bits binary32 b))) (sym (sign-bit c.args.negative c.from-sign.ensures)) (zero_pattern c.args.negative)
 
 pub returns-then-n-eq0 : goal.returns-then-n-eq0
 returns-then-n-eq0 c =
     let s = c in
-    ap (of_bits binary32) c.sign_bit-sign.ensures ∙ real-zero s.args.negative s.args.n s.args.unit c.if-n-eq0.true
+    ap (of_bits binary32) (sign-bit c.args.negative c.from-sign.ensures) ∙ real-zero s.args.negative s.args.n s.args.unit c.if-n-eq0.true
 
 pub overflow_cast-zeros : goal.overflow_cast-zeros
 overflow_cast-zeros c = omega (arith, leading_le 32 c.args.n)
@@ -47,7 +47,7 @@ overflow_add-result c =
     (rounded-high c.args.n c.args.unit (above_zero c.if-n-eq0.false) c.ranges.n.fits c.requires)
     in
     record {
-      fits = subst (λ (b : ℕ). b + exponent * 8388608 < 4294967296) (sym c.sign_bit-sign.ensures)
+      fits = subst (λ (b : ℕ). b + exponent * 8388608 < 4294967296) (sym (sign-bit c.args.negative c.from-sign.ensures))
           (field_fits exponent c.nearest_quotient-digits.result exponent-le high c.args.negative);
     }
 
@@ -61,7 +61,7 @@ overflow_add-result-2 c =
     in
     record {
       fits = subst (λ (b : ℕ). b + exponent * 8388608 + c.nearest_quotient-digits.result < 4294967296)
-          (sym c.sign_bit-sign.ensures) (pattern-fits exponent c.nearest_quotient-digits.result exponent-le high
+          (sym (sign-bit c.args.negative c.from-sign.ensures)) (pattern-fits exponent c.nearest_quotient-digits.result exponent-le high
           c.args.negative);
     }
 
@@ -74,12 +74,12 @@ float_from_bits-result-2 c =
     (rounded-high c.args.n c.args.unit (above_zero c.if-n-eq0.false) c.ranges.n.fits c.requires)
     in
     subst (λ (b : ℕ). T (not (nan_bits binary32 (b + exponent * 8388608 + c.nearest_quotient-digits.result))))
-    (sym c.sign_bit-sign.ensures) (no-nan-made exponent c.nearest_quotient-digits.result exponent-le high
+    (sym (sign-bit c.args.negative c.from-sign.ensures)) (no-nan-made exponent c.nearest_quotient-digits.result exponent-le high
     c.args.negative)
 
 pub returns : goal.returns
 returns c =
     let exponent : ℕ = 157 - c.args.unit - count_leading_zeros 32 c.args.n in
     let s = c in
-    ap₂ (λ (b q : ℕ). of_bits binary32 (b + exponent * 8388608 + q)) c.sign_bit-sign.ensures c.nearest_quotient-digits.ensures
+    ap₂ (λ (b q : ℕ). of_bits binary32 (b + exponent * 8388608 + q)) (sign-bit c.args.negative c.from-sign.ensures) c.nearest_quotient-digits.ensures
     ∙ real-made s.args.n s.args.unit (above_zero c.if-n-eq0.false) s.ranges.n.fits s.requires s.args.negative
