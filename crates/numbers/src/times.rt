@@ -1,4 +1,4 @@
-// Reals to counts and back, once for both units: a second is 2^unit counts.
+// Reals to counts and back, once for both units.
 ghost use Rattle.std.specs.Prelude.{◌≡◌, true, cond, ◌^◌, ◌≤◌, ◌<◌, T, pos, nat_abs};
 ghost use Rattle.std.specs.Float.{binary32};
 ghost use Rattle.std.specs.Float.Ieee.{round};
@@ -10,10 +10,16 @@ ghost use Rattle.numbers.specs.Written.{timer_allowed, operating_allowed};
 use counts::{OperatingCount, TimerCount};
 use std::cmp::Ordering;
 
-// Timer counts are in 1/2^8 s, operating counts in 1/2^3 s.
-const TIMER: u32 = 8;
+// A second is 2^bits counts.
+#[derive(Clone, Copy)]
+struct Unit {
+    bits: u32,
+    ghost small: { bits ≤ 8 },
+}
 
-const OPERATING: u32 = 3;
+const TIMER: Unit = Unit { bits: 8 };
+
+const OPERATING: Unit = Unit { bits: 3 };
 
 // A Real's bits from the top: its sign, the exponent's field, and 23 digits below the leading one,
 // whose weight is also that of the field's lowest bit.
@@ -38,9 +44,8 @@ fn nearest_quotient(n: u64, d: u64) -> u64
 // The Real nearest to n counts, a tie to the even last bit. The leading zeros of n give the exponent:
 // its field is 127 + 31 - unit - zeros, of which the leading digit brings the last 1. Where the 24
 // digits round up to 2^24, the sum carries into the field.
-fn real_of(negative: bool, n: u32, unit: u32) -> f32
-    requires { unit ≤ 8 }
-    ensures { result ≡ round binary32 negative n (2 ^ unit) }
+fn real_of(negative: bool, n: u32, unit: Unit) -> f32
+    ensures { result ≡ round binary32 negative n (2 ^ unit.bits) }
 {
     let sign = u32::from(negative) * SIGN;
     if n == 0 {
@@ -48,7 +53,7 @@ fn real_of(negative: bool, n: u32, unit: u32) -> f32
     }
     let zeros = n.leading_zeros();
     let digits = nearest_quotient((n as u64) << zeros, 256) as u32;
-    f32::from_bits(sign + (157 - unit - zeros) * LEADING + digits)
+    f32::from_bits(sign + (157 - unit.bits - zeros) * LEADING + digits)
 }
 
 pub fn timer_real(t: TimerCount) -> f32
@@ -66,24 +71,24 @@ pub fn operating_real(t: OperatingCount) -> f32
 
 // The magnitude of x in counts. Where the exponent's field is below 100, x is below 2^-27 s, which is
 // less than half a count of either unit.
-fn units_of(x: f32, unit: u32) -> u64
-    requires { (unit ≤ 8) × T (under (2 ^ unit) (2 ^ 32) x) }
-    ensures { result ≡ units_of (2 ^ unit) x }
+fn units_of(x: f32, unit: Unit) -> u64
+    requires { T (under (2 ^ unit.bits) (2 ^ 32) x) }
+    ensures { result ≡ units_of (2 ^ unit.bits) x }
 {
     let bits = f32::to_bits(x) % SIGN;
     let exponent = bits / LEADING;
     if exponent < 100 {
         return 0;
     }
-    let divisor = 1u64 << (158 - unit - exponent);
+    let divisor = 1u64 << (158 - unit.bits - exponent);
     let digits = LEADING + bits % LEADING;
     nearest_quotient((digits as u64) * 256, divisor)
 }
 
 // The count of x, with its sign.
-fn count_of(x: f32, unit: u32) -> i64
-    requires { (unit ≤ 8) × T (under (2 ^ unit) (2 ^ 32) x) }
-    ensures { result ≡ count_of (2 ^ unit) x }
+fn count_of(x: f32, unit: Unit) -> i64
+    requires { T (under (2 ^ unit.bits) (2 ^ 32) x) }
+    ensures { result ≡ count_of (2 ^ unit.bits) x }
 {
     let n = units_of(x, unit) as i64;
     if x < 0.0 {
