@@ -8,6 +8,7 @@ ghost use Rattle.counts.specs.Counts.{free_run_tick, watchdog_tick, out_timer_ti
 ghost use Rattle.counts.specs.Counts.{operating_step, operating_tick};
 
 use integers::signed;
+use std::hint::select_unpredictable;
 
 #[repr(C)]
 #[derive(Clone, Copy)]
@@ -28,31 +29,23 @@ pub struct Operating {
 // A tick is 1/32 s.
 const TICK: i32 = 8;
 
-// A count less a tick, stopping at floor. An i64 holds the difference whatever the count.
-fn down_to(n: i32, floor: i32) -> i32
-    ensures { result ≡ larger (n -ℤ pos 8) floor }
-{
-    let next = (n as i64) - (TICK as i64);
-    if next < (floor as i64) {
-        return floor;
-    }
-    next as i32
-}
-
 impl TimerCount {
+    #[tactic(auto, unfolding(crate::specs::Counts::free_run_tick))]
     pub fn free_run_tick(self) -> TimerCount
         ensures { result ≡ free_run_tick self }
     {
         TimerCount(signed::wrapping_add_i32(self.0, TICK))
     }
 
+    #[tactic(auto, using(crate::proofs::Laws::Down::to_zero), unfolding(crate::specs::Counts::watchdog_tick))]
     pub fn watchdog_tick(self) -> TimerCount
         ensures { result ≡ watchdog_tick self }
     {
-        TimerCount(down_to(self.0, 0))
+        TimerCount(self.0.saturating_sub(TICK).max(0))
     }
 
     // The manual's timer goes on from its largest value.
+    #[tactic(auto, unfolding(crate::specs::Counts::out_timer_tick))]
     pub fn out_timer_tick(self) -> TimerCount
         ensures { result ≡ out_timer_tick self }
     {
@@ -61,42 +54,35 @@ impl TimerCount {
 
     // FBTimer counts through zero, and a negative count means that the time has passed: it must
     // not come round to a positive one.
+    #[tactic(auto, using(crate::proofs::Laws::Down::to_lowest), unfolding(crate::specs::Counts::feedback_tick))]
     pub fn feedback_tick(self) -> TimerCount
         ensures { result ≡ feedback_tick self }
     {
-        TimerCount(down_to(self.0, -2147483648))
+        TimerCount(self.0.saturating_sub(TICK))
     }
 
+    #[tactic(auto, unfolding(crate::specs::Counts::is_negative))]
     pub fn negative(self) -> bool
         ensures { result ≡ is_negative self }
     {
-        self.0 < 0
+        self.0.is_negative()
     }
 
+    #[tactic(auto, unfolding(crate::specs::Counts::is_positive))]
     pub fn positive(self) -> bool
         ensures { result ≡ is_positive self }
     {
-        self.0 > 0
+        self.0.is_positive()
     }
 }
 
 impl OperatingCount {
+    #[tactic(auto, unfolding(crate::specs::Counts::operating_step))]
     pub fn step(self) -> OperatingCount
         ensures { result ≡ operating_step self }
     {
-        let n = self.0;
-        if n < 4294967295 {
-            return OperatingCount(n + 1);
-        }
-        OperatingCount(4294967295)
+        OperatingCount(self.0.saturating_add(1))
     }
-}
-
-fn step_if(b: bool, n: OperatingCount) -> OperatingCount
-    ensures { result ≡ cond b (operating_step n) n }
-{
-    let stepped = n.step();
-    if b { stepped } else { n }
 }
 
 // A quarter more. A number above 3 acts as 0.
@@ -109,26 +95,21 @@ fn more(q: u8) -> u8
     if q == 3 { 0 } else { 1 }
 }
 
-fn pick(b: bool, x: u8, y: u8) -> u8
-    ensures { result ≡ cond b x y }
-{
-    if b { x } else { y }
-}
-
 impl Operating {
     // A tick with InFlag on or off. Values are chosen: a branch on InFlag, or on the fourth quarter,
     // took longer where channels go on and off (docs/FIGURES.md).
     pub fn tick(self, on: bool) -> Operating
         ensures { result ≡ cond on (operating_tick self) self }
     {
-        let quarters = more(self.quarters);
+        let full = on & (self.quarters == 3);
         Operating {
-            count: step_if(on & (self.quarters == 3), self.count),
-            quarters: pick(on, quarters, self.quarters),
+            count: select_unpredictable(full, self.count.step(), self.count),
+            quarters: select_unpredictable(on, more(self.quarters), self.quarters),
         }
     }
 }
 
+#[tactic(auto, unfolding(crate::specs::Counts::counter_step))]
 pub fn counter_step(n: i32) -> i32
     ensures { result ≡ counter_step n }
 {

@@ -8,17 +8,10 @@ use mir.ValLaws.{to_z-of_z, of_z-to_z, to_z-Fits}
 use Rattle.integers.specs.Integers.{modulo, signed_bits, wrapped}
 use Rattle.integers.specs.Bytes.{number, bytes_of, signed_number, signed_bytes}
 use Rattle.integers.specs.Claims.{Wrapped, ComeBack}
-use Rattle.integers.proofs.Laws.Residues.{modulo-bits, bits-signed, modulo-lt}
+use Rattle.integers.proofs.Laws.Residues.{modulo-bits, bits-signed, modulo-lt, residue-fits, wrapped-is}
 use Rattle.integers.proofs.Laws.Bytes.{length-bytes, number-bytes, number_lt, bytes-number}
 
 -- ---- two's complement
-residue-fits : (w : Width) (z : ℤ) → Fits w (modulo z (2 ^ bits w))
-residue-fits w z = record { fits = modulo-lt z (2 ^ bits w) (pow_pos (bits w)) }
-
-wrapped-is : (w : Width) (z : ℤ) → wrapped (bits w) z ≡ to_z w (modulo z (2 ^ bits w))
-unfolding wrapped
-wrapped-is w z = bits-signed w (modulo z (2 ^ bits w)) (residue-fits w z)
-
 held : (w : Width) (z : ℤ) → SFits w (wrapped (bits w) z)
 held w z = subst (SFits w) (sym (wrapped-is w z)) (to_z-Fits w (modulo z (2 ^ bits w)) (residue-fits w z))
 

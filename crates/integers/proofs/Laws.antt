@@ -1,3 +1,2 @@
 pub mod Residues
-pub mod Signs
 pub mod Bytes

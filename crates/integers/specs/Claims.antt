@@ -6,7 +6,7 @@ use mir.Val.{bits}
 use Rattle.integers.specs.Integers.{modulo, wrapped}
 use Rattle.integers.specs.Bytes.{number, bytes_of, signed_number, signed_bytes}
 
--- A number brought into the signed bits of a width has them, differs by a multiple of 2 ^ bits, and is the number itself where that has them. `SFits w z`
+-- A number brought into the signed bits of a width has them, differs by a multiple of 2 ^ bits, and is the number itself where that has them. `FitsSigned w z`
 -- says that z is from −2 ^ (bits − 1) up to, not including, 2 ^ (bits − 1).
 pub record Wrapped : Type 0 where
   pub held : (w : Width) (z : ℤ) → FitsSigned w (wrapped (bits w) z)

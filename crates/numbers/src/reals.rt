@@ -12,7 +12,7 @@ pub fn of_bits(bits: u32) -> f32
     ensures { result ≡ of_bits binary32 bits }
 {
     if bits % 0x8000_0000 > 0x7F80_0000 {
-        return 0.0 / 0.0;
+        return f32::NAN;
     }
     f32::from_bits(bits)
 }
@@ -21,18 +21,17 @@ pub fn of_bits(bits: u32) -> f32
 pub fn bits_of(x: f32) -> u32
     ensures { result ≡ to_bits binary32 x }
 {
-    if x != x {
+    if x.is_nan() {
         return 0x7FC0_0000;
     }
-    f32::to_bits(x)
+    x.to_bits()
 }
 
 // Neither a NaN nor an infinity.
 pub fn is_finite(x: f32) -> bool
     ensures { result ≡ finite x }
 {
-    let inf: f32 = 1.0 / 0.0;
-    if x < inf { -inf < x } else { false }
+    x.is_finite()
 }
 
 pub fn of_bytes(a: u8, b: u8, c: u8, d: u8) -> f32

@@ -1,4 +1,4 @@
-// Reals to counts and back, once for both units: a second is 2^unit counts.
+// Reals to counts and back, once for both units.
 ghost use Rattle.std.specs.Prelude.{◌≡◌, true, cond, ◌^◌, ◌≤◌, ◌<◌, T, pos, nat_abs};
 ghost use Rattle.std.specs.Float.{binary32};
 ghost use Rattle.std.specs.Float.Ieee.{round};
@@ -8,11 +8,18 @@ ghost use Rattle.numbers.specs.Reals.{units_of, count_of, real_of, under};
 ghost use Rattle.numbers.specs.Written.{timer_allowed, operating_allowed};
 
 use counts::{OperatingCount, TimerCount};
+use std::cmp::Ordering;
 
-// Timer counts are in 1/2^8 s, operating counts in 1/2^3 s.
-const TIMER: u32 = 8;
+// A second is 2^bits counts.
+#[derive(Clone, Copy)]
+struct Unit {
+    bits: u32,
+    ghost small: { bits ≤ 8 },
+}
 
-const OPERATING: u32 = 3;
+const TIMER: Unit = Unit { bits: 8 };
+
+const OPERATING: Unit = Unit { bits: 3 };
 
 // A Real's bits from the top: its sign, the exponent's field, and 23 digits below the leading one,
 // whose weight is also that of the field's lowest bit.
@@ -27,58 +34,33 @@ fn nearest_quotient(n: u64, d: u64) -> u64
 {
     let q = n / d;
     let twice = n % d * 2;
-    if twice < d {
-        return q;
+    match twice.cmp(&d) {
+        Ordering::Less => q,
+        Ordering::Equal => q + q % 2,
+        Ordering::Greater => q + 1,
     }
-    if twice > d {
-        return q + 1;
-    }
-    if q % 2 == 0 {
-        return q;
-    }
-    q + 1
-}
-
-fn sign_bit(negative: bool) -> u32
-    ensures { result ≡ cond negative 2147483648 0 }
-{
-    if negative {
-        return SIGN;
-    }
-    0
 }
 
 // The Real nearest to n counts, a tie to the even last bit. The leading zeros of n give the exponent:
 // its field is 127 + 31 - unit - zeros, of which the leading digit brings the last 1. Where the 24
 // digits round up to 2^24, the sum carries into the field.
-fn real_of(negative: bool, n: u32, unit: u32) -> f32
-    requires { unit ≤ 8 }
-    ensures { result ≡ round binary32 negative n (2 ^ unit) }
+fn real_of(negative: bool, n: u32, unit: Unit) -> f32
+    ensures { result ≡ round binary32 negative n (2 ^ unit.bits) }
 {
-    let sign = sign_bit(negative);
+    let sign = u32::from(negative) * SIGN;
     if n == 0 {
         return f32::from_bits(sign);
     }
-    let zeros = u32::leading_zeros(n);
+    let zeros = n.leading_zeros();
     let digits = nearest_quotient((n as u64) << zeros, 256) as u32;
-    f32::from_bits(sign + (157 - unit - zeros) * LEADING + digits)
-}
-
-// The magnitude of n, 2^31 at the least number.
-fn magnitude(n: i32) -> u32
-    ensures { result ≡ nat_abs n }
-{
-    if n < 0 {
-        return ((!n) as u32) + 1;
-    }
-    n as u32
+    f32::from_bits(sign + (157 - unit.bits - zeros) * LEADING + digits)
 }
 
 pub fn timer_real(t: TimerCount) -> f32
     ensures { result ≡ real_of timer_units t.0 }
 {
     let n = t.0;
-    real_of(n < 0, magnitude(n), TIMER)
+    real_of(n < 0, n.unsigned_abs(), TIMER)
 }
 
 pub fn operating_real(t: OperatingCount) -> f32
@@ -89,24 +71,24 @@ pub fn operating_real(t: OperatingCount) -> f32
 
 // The magnitude of x in counts. Where the exponent's field is below 100, x is below 2^-27 s, which is
 // less than half a count of either unit.
-fn units_of(x: f32, unit: u32) -> u64
-    requires { (unit ≤ 8) × T (under (2 ^ unit) (2 ^ 32) x) }
-    ensures { result ≡ units_of (2 ^ unit) x }
+fn units_of(x: f32, unit: Unit) -> u64
+    requires { T (under (2 ^ unit.bits) (2 ^ 32) x) }
+    ensures { result ≡ units_of (2 ^ unit.bits) x }
 {
     let bits = f32::to_bits(x) % SIGN;
     let exponent = bits / LEADING;
     if exponent < 100 {
         return 0;
     }
-    let divisor = 1u64 << (158 - unit - exponent);
+    let divisor = 1u64 << (158 - unit.bits - exponent);
     let digits = LEADING + bits % LEADING;
     nearest_quotient((digits as u64) * 256, divisor)
 }
 
 // The count of x, with its sign.
-fn count_of(x: f32, unit: u32) -> i64
-    requires { (unit ≤ 8) × T (under (2 ^ unit) (2 ^ 32) x) }
-    ensures { result ≡ count_of (2 ^ unit) x }
+fn count_of(x: f32, unit: Unit) -> i64
+    requires { T (under (2 ^ unit.bits) (2 ^ 32) x) }
+    ensures { result ≡ count_of (2 ^ unit.bits) x }
 {
     let n = units_of(x, unit) as i64;
     if x < 0.0 {

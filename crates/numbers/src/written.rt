@@ -6,30 +6,26 @@ ghost use Rattle.numbers.specs.Written.{timer_allowed, preset_allowed, operating
 pub fn timer_allowed(x: f32) -> bool
     ensures { result ≡ timer_allowed x }
 {
-    if -8388608.0 <= x {
-        x < 8388608.0
-    } else {
-        false
-    }
+    (-8388608.0 <= x) & (x < 8388608.0)
 }
 
 // WDTimer and the presets.
 pub fn preset_allowed(x: f32) -> bool
     ensures { result ≡ preset_allowed x }
 {
-    if 0.0 <= x { x < 8388608.0 } else { false }
+    (0.0 <= x) & (x < 8388608.0)
 }
 
 // OperatingTime.
 pub fn operating_allowed(x: f32) -> bool
     ensures { result ≡ operating_allowed x }
 {
-    if 0.0 <= x { x < 536870912.0 } else { false }
+    (0.0 <= x) & (x < 536870912.0)
 }
 
 // MinCurrent and MaxCurrent.
 pub fn limit_allowed(x: f32) -> bool
     ensures { result ≡ limit_allowed x }
 {
-    if 0.0 <= x { x <= 1.0 } else { false }
+    (0.0 <= x) & (x <= 1.0)
 }

@@ -1,34 +1,20 @@
--- A count of 32 bits less 8, in 64 bits, which hold it, and the larger of that and a floor. Assumes nothing.
-use mathlib.Core.Path.{◌≡◌, refl, sym, ap, ap₂, ◌∙◌, subst}
+-- A count of 32 bits less 8, brought back to 32 bits as std's `saturating_sub` does it, and the larger of it and a floor. Assumes nothing.
+use mathlib.Core.Path.{◌≡◌, refl, sym, ap, ◌∙◌}
 use mathlib.Core.Bool.{Bool, true, false, cond, true≢false}
-use Prim.Native.Nat.{ℕ, suc, ◌-◌, ◌<◌}
+use Prim.Native.Nat.{ℕ, suc, ◌-◌, ◌<◌, min}
 use native.Mathlib.Omega.{arith}
 use lib.Dec.{ltb}
-use lib.IntN.{ℤ, pos, negsuc, ◌-ℤ◌}
+use lib.IntN.{ℤ, pos, negsuc, ◌-ℤ◌, neg_ℤ}
 use lib.Signed.{mag, lt_z}
-use mir.Syntax.{w32, w64}
-use mir.Val.{SFits, to_z, of_z}
-use mir.ValLaws.{to_z-of_z}
-use borrow.Author.Tests.{ltb-false}
+use mir.Syntax.{w32}
+use mir.Val.{SFits}
+use borrow.Author.Tests.{ltb-true, ltb-false, lt-ltb, le-ltb}
+use Rattle.std.specs.Int.{int_max, saturate_signed}
 use Rattle.integers.specs.Integers.{larger}
-
--- a number as code reads it back from a local of 32 bits, and of 64
-abbrev pub in32 : ℤ → ℤ
-in32 z = to_z w32 (of_z w32 z)
-
-abbrev pub in64 : ℤ → ℤ
-in64 z = to_z w64 (of_z w64 z)
-
-widen : (z : ℤ) → SFits w32 z → SFits w64 z
-widen z F = let h = F.sfits in record { sfits = omega arith }
 
 either : (b : Bool) (x y : ℤ) (h : ℕ) → mag x < h → mag y < h → mag (cond b x y) < h
 either true x y h p q = p
 either false x y h p q = q
-
-minus-wide : (z : ℤ) → SFits w32 z → SFits w64 (z -ℤ pos 8)
-minus-wide (pos n) F = let h = F.sfits in record { sfits = either (ltb n 8) (negsuc (8 - suc n)) (pos (n - 8)) 9223372036854775808 (omega arith) (omega arith) }
-minus-wide (negsuc k) F = let h = F.sfits in record { sfits = omega arith }
 
 -- not below a floor of 32 bits, it has 32 bits too
 minus-fits : (z f : ℤ) → SFits w32 z → SFits w32 f → lt_z (z -ℤ pos 8) f ≡ false → SFits w32 (z -ℤ pos 8)
@@ -44,29 +30,35 @@ larger-fits z f Z F = go (lt_z (z -ℤ pos 8) f) refl
     go true e = F
     go false e = minus-fits z f Z F e
 
-module _ (n f : ℤ) (N : SFits w32 n) (F : SFits w32 f) where
-  pub wide : SFits w64 (in32 n)
-  wide = rw (to_z-of_z w32 n N) (widen n N)
+-- ---- it is not above the highest, so that only the lowest can stop it
+not-above : (z : ℤ) → SFits w32 z → lt_z (z -ℤ pos 8) (pos 2147483648) ≡ true
+not-above (pos n) F = go (ltb n 8)
+  where
+    go : (b : Bool) → lt_z (cond b (negsuc (8 - suc n)) (pos (n - 8))) (pos 2147483648) ≡ true
+    go true = refl
+    go false = let h = F.sfits in lt-ltb (n - 8) 2147483648 (omega arith)
+not-above (negsuc k) F = refl
 
-  read : (z : ℤ) → SFits w32 z → in64 (in32 z) ≡ z
-  read z Z = ap in64 (to_z-of_z w32 z Z) ∙ to_z-of_z w64 z (widen z Z)
+lowest : (d : ℤ) → lt_z d (pos 2147483648) ≡ true → saturate_signed w32 d ≡ larger d (neg_ℤ (pos 2147483648))
+unfolding larger
+lowest (pos m) h = let l = ltb-true m 2147483648 h in let e : min m 2147483647 ≡ m = omega (arith, l) in ap pos e
+lowest (negsuc a) h = go (ltb 2147483647 a) refl
+  where
+    go : (b : Bool) → ltb 2147483647 a ≡ b → negsuc (min a 2147483647) ≡ cond b (negsuc 2147483647) (negsuc a)
+    go true e = let l = ltb-true 2147483647 a e in let m : min a 2147483647 ≡ 2147483647 = omega (arith, l) in ap negsuc m
+    go false e = let l = ltb-false 2147483647 a e in let m : min a 2147483647 ≡ a = omega (arith, l) in ap negsuc m
 
-  pub difference : SFits w64 (in64 (in32 n) -ℤ pos 8)
-  difference = subst (λ (z : ℤ). SFits w64 (z -ℤ pos 8)) (sym (read n N)) (minus-wide n N)
+zero : (d : ℤ) → lt_z d (pos 2147483648) ≡ true → int_max (saturate_signed w32 d) (pos 0) ≡ larger d (pos 0)
+unfolding larger
+zero (pos m) h = go (ltb 0 (min m 2147483647)) refl ∙ sym (ap (λ (b : Bool). cond b (pos 0) (pos m)) (le-ltb m 0 (omega arith)))
+  where
+    go : (b : Bool) → ltb 0 (min m 2147483647) ≡ b → cond b (pos (min m 2147483647)) (pos 0) ≡ pos m
+    go true f = let l = ltb-true m 2147483648 h in let e : min m 2147483647 ≡ m = omega (arith, l) in ap pos e
+    go false f = let l = ltb-false 0 _ f in let k = ltb-true m 2147483648 h in let e : 0 ≡ m = omega (arith, l, k) in ap pos e
+zero (negsuc a) h = refl
 
-  next : in64 (in64 (in32 n) -ℤ pos 8) ≡ n -ℤ pos 8
-  next = ap (λ (z : ℤ). in64 (z -ℤ pos 8)) (read n N) ∙ to_z-of_z w64 (n -ℤ pos 8) (minus-wide n N)
+pub to_lowest : (z : ℤ) → SFits w32 z → saturate_signed w32 (z -ℤ pos 8) ≡ larger (z -ℤ pos 8) (neg_ℤ (pos 2147483648))
+to_lowest z F = lowest (z -ℤ pos 8) (not-above z F)
 
-  test : (b : Bool) → lt_z (in64 (in64 (in32 n) -ℤ pos 8)) (in64 (in32 f)) ≡ b → lt_z (n -ℤ pos 8) f ≡ b
-  test b e = ap₂ lt_z (sym next) (sym (read f F)) ∙ e
-
-  pub stopped : lt_z (in64 (in64 (in32 n) -ℤ pos 8)) (in64 (in32 f)) ≡ true → in32 f ≡ larger (n -ℤ pos 8) f
-  unfolding larger
-  stopped e = to_z-of_z w32 f F ∙ sym (ap (λ (b : Bool). cond b f (n -ℤ pos 8)) (test true e))
-
-  pub narrow : lt_z (in64 (in64 (in32 n) -ℤ pos 8)) (in64 (in32 f)) ≡ false → SFits w32 (in64 (in64 (in32 n) -ℤ pos 8))
-  narrow e = subst (SFits w32) (sym next) (minus-fits n f N F (test false e))
-
-  pub counted : lt_z (in64 (in64 (in32 n) -ℤ pos 8)) (in64 (in32 f)) ≡ false → in32 (in64 (in64 (in32 n) -ℤ pos 8)) ≡ larger (n -ℤ pos 8) f
-  unfolding larger
-  counted e = to_z-of_z w32 _ (narrow e) ∙ next ∙ sym (ap (λ (b : Bool). cond b f (n -ℤ pos 8)) (test false e))
+pub to_zero : (z : ℤ) → SFits w32 z → int_max (saturate_signed w32 (z -ℤ pos 8)) (pos 0) ≡ larger (z -ℤ pos 8) (pos 0)
+to_zero z F = zero (z -ℤ pos 8) (not-above z F)

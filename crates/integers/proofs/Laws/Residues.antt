@@ -1,10 +1,10 @@
 -- The bits of a signed number, and sums modulo 2 ^ 32. Assumes nothing.
-use Rattle.std.proofs.Common.{◌≡◌, ℕ, suc, ◌+◌, ◌-◌, ◌%◌, ◌^◌, ◌<◌, ◌≤◌, Bool, true, false, cond, not, T, ltb, ℤ, pos, negsuc, ◌+ℤ◌, ◌-ℤ◌, neg_ℤ, sym, refl, ap, ◌∙◌, mod-lt, mod-eq_of_lt, arith, lit<, ltb→lt, nltb→le, Fits, SFits, to_z, of_z}
+use Rattle.std.proofs.Common.{◌≡◌, ℕ, suc, ◌+◌, ◌-◌, ◌%◌, ◌^◌, ◌<◌, ◌≤◌, Bool, true, false, cond, not, T, ltb, ℤ, pos, negsuc, ◌+ℤ◌, ◌-ℤ◌, neg_ℤ, sym, refl, ap, ◌∙◌, mod-lt, mod-eq_of_lt, pow_pos, arith, lit<, ltb→lt, nltb→le, Fits, SFits, to_z, of_z}
 use lib.IntN.{+ℤ_assoc, +ℤ_invl, +ℤ_idr}
 use mir.Syntax.{Width}
 use mir.Val.{sel, bits, hbits}
 use mir.ValLaws.{half_full, bits-suc}
-use Rattle.integers.specs.Integers.{modulo, signed_bits}
+use Rattle.integers.specs.Integers.{modulo, signed_bits, wrapped}
 
 -- ---- a signed number's bits are the number modulo 2 ^ bits
 pub modulo-bits : (w : Width) (z : ℤ) → SFits w z → modulo z (2 ^ bits w) ≡ of_z w z
@@ -27,6 +27,18 @@ bits-signed w n F = ap (λ (k : ℕ). cond (ltb n (2 ^ k)) (pos n) (neg_ℤ (pos
     same true = refl
     same false = refl
 
+pub modulo-lt : (z : ℤ) (m : ℕ) → 0 < m → modulo z m < m
+unfolding modulo
+modulo-lt (pos n) m M = mod-lt n M
+modulo-lt (negsuc n) m M = omega arith
+
+pub residue-fits : (w : Width) (z : ℤ) → Fits w (modulo z (2 ^ bits w))
+residue-fits w z = record { fits = modulo-lt z (2 ^ bits w) (pow_pos (bits w)) }
+
+pub wrapped-is : (w : Width) (z : ℤ) → wrapped (bits w) z ≡ to_z w (modulo z (2 ^ bits w))
+unfolding wrapped
+wrapped-is w z = bits-signed w (modulo z (2 ^ bits w)) (residue-fits w z)
+
 -- ---- sums modulo 2 ^ 32
 plus-minus : (a b : ℕ) → modulo (pos a +ℤ negsuc b) 4294967296 ≡ (a % 4294967296 + (4294967296 - suc (b % 4294967296))) % 4294967296
 unfolding modulo
@@ -43,11 +55,6 @@ modulo-add (pos a) (pos b) = omega arith
 modulo-add (pos a) (negsuc b) = plus-minus a b
 modulo-add (negsuc a) (pos b) = omega (arith, plus-minus b a)
 modulo-add (negsuc a) (negsuc b) = omega arith
-
-pub modulo-lt : (z : ℤ) (m : ℕ) → 0 < m → modulo z m < m
-unfolding modulo
-modulo-lt (pos n) m M = mod-lt n M
-modulo-lt (negsuc n) m M = omega arith
 
 -- the number that b added to gives a again
 pub modulo-sub : (a b : ℤ) (r : ℕ) → r < 4294967296 → (r + modulo b 4294967296) % 4294967296 ≡ modulo a 4294967296 → r ≡ modulo (a -ℤ b) 4294967296

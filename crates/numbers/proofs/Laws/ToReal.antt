@@ -1,6 +1,7 @@
 -- n / 2 ^ u as a Real of 32 bits, for an n from 1 up and below 2 ^ 32 with z leading zeros and a u up to 8. Moved up by z places n has 32 digits, of which
 -- the Real keeps 24, rounded: that is q.
 -- The exponent's field, less one for the leading digit, is 157 - u - z. Where q is 2 ^ 24, the sum of the two carries into the exponent. Assumes nothing.
+use Rattle.std.specs.Int.{from_bool}
 use mathlib.Core.Path.{◌≡◌, refl, sym, ap, ◌∙◌, subst}
 use mathlib.Core.Logic.{inl, inr}
 use mathlib.Core.Bool.{Bool, true, false, not, cond}
@@ -20,6 +21,11 @@ use lib.Ieee.Order.{drop, kept}
 use lib.Ieee.Scale.{grid, overflow, round_same}
 use Rattle.numbers.proofs.Laws.Floats.{no-nan-pattern}
 use Rattle.numbers.proofs.Laws.Value.{size_is, round-value, value-bits}
+
+-- the sign's bit, as code makes it of the flag
+pub sign-bit : (s : Bool) {r : ℕ} → r ≡ from_bool s → r * 2147483648 ≡ cond s 2147483648 0
+sign-bit true e = rw e
+sign-bit false e = rw e
 
 -- ---- a carry out of the 24 digits
 keep-24 : (k : ℕ) → suc (23 + k) - 24 ≡ k

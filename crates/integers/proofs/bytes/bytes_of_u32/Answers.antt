@@ -1,11 +1,7 @@
-use Rattle.std.proofs.Common.{◌≡◌, ◌/◌, ◌%◌, arith}
+use Rattle.std.proofs.Common.{rules}
 use Rattle.integers.specs.Bytes.{bytes_of}
 use Rattle.integers.proofs.bytes.bytes_of_u32.Goals as goal
 
 pub returns : goal.returns
 unfolding bytes_of
-returns c =
-    let n = c.args.n in
-    let high : n / 16777216 ≡ n / 16777216 % 256 = omega (arith, c.ranges.n.fits) in
-    let low : n % 256 ≡ n / 1 % 256 = omega arith in
-    cc
+returns c = search rules

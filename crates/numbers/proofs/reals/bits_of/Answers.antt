@@ -1,13 +1,8 @@
-use mathlib.Core.Path.{sym, ap}
+use Rattle.std.proofs.Common.{sym, ap, ◌∙◌}
 use lib.Ieee.{binary32, to_bits}
-use lib.Ieee.Compare.{differs_from_itself}
-use denote.Floats.{passes}
-use Rattle.numbers.proofs.Laws.Floats.{equal_no_nan}
+use Rattle.numbers.proofs.Laws.Floats.{is-nan}
 use Rattle.numbers.proofs.reals.bits_of.Goals as goal
 
-pub returns-then-x : goal.returns-then-x
+pub returns-then-is_nan : goal.returns-then-is_nan
 unfolding to_bits
-returns-then-x c = sym (ap (to_bits binary32) (differs_from_itself c.args.x (passes _ c.if-x.true)))
-
-pub float_to_bits-result : goal.float_to_bits-result
-float_to_bits-result c = equal_no_nan c.args.x c.if-x.false
+returns-then-is_nan c = sym (ap (to_bits binary32) (is-nan c.args.x (sym c.is_nan.ensures.value ∙ c.if-is_nan.true)))

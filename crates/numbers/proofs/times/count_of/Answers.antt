@@ -16,13 +16,13 @@ small : (per n : ℕ) (x : Float) → n ≡ units_of per x → T (under per 4294
 small per n x h u = subst (λ (n : ℕ). n ≤ 4294967296) (sym h) (units-up-to per 4294967296 x u)
 
 pub overflow_cast-n : goal.overflow_cast-n
-overflow_cast-n c = plus-fits c.units_of-n.result (small (2 ^ c.args.unit) c.units_of-n.result c.args.x c.units_of-n.ensures c.requires.1)
+overflow_cast-n c = plus-fits c.units_of-n.result (small (2 ^ c.args.unit.bits) c.units_of-n.result c.args.x c.units_of-n.ensures c.requires)
 
 pub overflow_sub-result : goal.overflow_sub-result
-overflow_sub-result c = minus-fits c.units_of-n.result (small (2 ^ c.args.unit) c.units_of-n.result c.args.x c.units_of-n.ensures c.requires.1)
+overflow_sub-result c = minus-fits c.units_of-n.result (small (2 ^ c.args.unit.bits) c.units_of-n.result c.args.x c.units_of-n.ensures c.requires)
 
 pub returns-then-x : goal.returns-then-x
-returns-then-x c = minus-read c.units_of-n.result (small (2 ^ c.args.unit) c.units_of-n.result c.args.x c.units_of-n.ensures c.requires.1) ∙ count (2 ^ c.args.unit) c.units_of-n.result c.args.x true c.units_of-n.ensures c.if-x.true
+returns-then-x c = minus-read c.units_of-n.result (small (2 ^ c.args.unit.bits) c.units_of-n.result c.args.x c.units_of-n.ensures c.requires) ∙ count (2 ^ c.args.unit.bits) c.units_of-n.result c.args.x true c.units_of-n.ensures c.if-x.true
 
 pub returns : goal.returns
-returns c = plus c.units_of-n.result (small (2 ^ c.args.unit) c.units_of-n.result c.args.x c.units_of-n.ensures c.requires.1) ∙ count (2 ^ c.args.unit) c.units_of-n.result c.args.x false c.units_of-n.ensures c.if-x.false
+returns c = plus c.units_of-n.result (small (2 ^ c.args.unit.bits) c.units_of-n.result c.args.x c.units_of-n.ensures c.requires) ∙ count (2 ^ c.args.unit.bits) c.units_of-n.result c.args.x false c.units_of-n.ensures c.if-x.false

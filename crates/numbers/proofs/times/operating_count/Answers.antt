@@ -1,5 +1,5 @@
 use mathlib.Core.Path.{◌≡◌, sym, ap, ◌∙◌, subst}
-use lib.Dec.{T, lit≤}
+use lib.Dec.{T}
 use lib.IntN.{ℤ, pos, nat_abs}
 use lib.Signed.{non_neg}
 use lib.Ieee.{binary32, fits}
@@ -16,7 +16,7 @@ made : ℤ → OperatingCount
 made z = record { 0 = nat_abs z }
 
 pub count_of-requires : goal.count_of-requires
-count_of-requires c = (lit≤ tt, operating-under c.args.x (subst T (sym c.requires) tt))
+count_of-requires c = operating-under c.args.x (subst T (sym c.requires) tt)
 
 pub overflow_cast-result : goal.overflow_cast-result
 overflow_cast-result c =

@@ -1,5 +1,5 @@
 use mathlib.Core.Path.{◌≡◌, sym, ap, ◌∙◌, subst}
-use lib.Dec.{T, lit≤}
+use lib.Dec.{T}
 use lib.IntN.{ℤ}
 use lib.Ieee.{binary32, fits}
 use mir.Syntax.{w32, w64}
@@ -12,7 +12,7 @@ use Rattle.numbers.proofs.Laws.Range.{timer-under, timer-fits}
 use Rattle.numbers.proofs.times.timer_count.Goals as goal
 
 pub count_of-requires : goal.count_of-requires
-count_of-requires c = (lit≤ tt, timer-under c.args.x (subst T (sym c.requires) tt))
+count_of-requires c = timer-under c.args.x (subst T (sym c.requires) tt)
 
 pub overflow_cast-result : goal.overflow_cast-result
 overflow_cast-result c =

@@ -1,3 +1,4 @@
+use Rattle.std.proofs.Common.{rules}
 use mathlib.Core.Path.{ap, ◌∙◌}
 use Prim.Native.Nat.{ℕ}
 use lib.IntN.{pos}
@@ -15,6 +16,6 @@ returns c =
     let t = c.args.t in
     let z = to_z w32 (of_z w32 t.0) in
     c.real_of.ensures
-    ∙ ap (λ (n : ℕ). round binary32 (lt_z z (pos 0)) n 256) c.magnitude.ensures
+    ∙ ap (λ (n : ℕ). round binary32 (lt_z z (pos 0)) n 256) c.unsigned_abs.ensures.value
     ∙ real-signed 256 z
-    ∙ ap (real_of 256) (to_z-of_z w32 t.0 (record { sfits = c.struct_told-1.given.0.1 }))
+    ∙ ap (real_of 256) (to_z-of_z w32 t.0 (search rules))
