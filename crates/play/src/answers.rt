@@ -96,9 +96,13 @@ fn put_charge(text: &mut Text, c: Charge) {
         c.litres,
         tariff,
     );
+    let (number, cents) = match charged {
+        Ok(cents) => (0, cents),
+        Err(why) => (why.number(), 0),
+    };
     text.put(b"charge");
-    text.put_number(u64::from(charged.number));
-    text.put_number(charged.cents);
+    text.put_number(u64::from(number));
+    text.put_number(cents);
     text.put(b"\n");
 }
 
