@@ -33,12 +33,7 @@ fn fill(input: &mut impl Read, text: &mut Text) -> bool {
 }
 
 // A line whose start was too long to be kept is too long, whatever is left of it.
-fn parse<'a>(
-    number: u64,
-    long: bool,
-    line: &'a [u8],
-    space: &mut [u8],
-) -> Result<Parsed<'a>, Wrong>
+fn parse<'a>(number: u64, long: bool, line: &'a [u8], space: &mut [u8]) -> Result<Parsed<'a>, Wrong>
     ensures { IfOk result (λ p. p.n ≤ length space.new) }
 {
     if long {
@@ -68,10 +63,11 @@ impl Player<'_> {
 
     // Where the answers cannot be written it says so, and the script goes on.
     fn write_out(&mut self, rt: &(impl Print + Eprint)) {
-        if rt.write_all(&self.out.bytes[..self.out.len]).is_err() {
+        let out = &mut self.out;
+        if rt.write_all(&out.bytes[..out.len]).is_err() {
             let _ = rt.eprintln("play: the answers could not be written");
         }
-        self.out.len = 0;
+        out.len = 0;
     }
 
     // Runs the lines of a text that have ended, and answers how many bytes those are.
