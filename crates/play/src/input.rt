@@ -13,20 +13,15 @@ use std::io::Read;
 // No answer is longer than half the buffer: a line's bytes, and what `store` lends, bound it.
 const HALF: usize = 32768;
 
-// The box, the number of lines so far, and whether the line that has begun is too long.
-#[derive(Clone, Copy)]
-pub struct Player {
+// The box, the number of lines so far, whether the line that has begun is too long, room for the
+// bytes of a call, and the answers that are still to write.
+#[derive(Drop)]
+pub struct Player<'a> {
     pub after: Module,
     pub line: u64,
     pub long: bool,
-}
-
-// Where the answers cannot be written it says so, and the script goes on.
-fn write_out(rt: &(impl Print + Eprint), out: &mut Text) {
-    if rt.write_all(&out.bytes[..out.len]).is_err() {
-        let _ = rt.eprintln("play: the answers could not be written");
-    }
-    out.len = 0;
+    pub space: &'a mut [u8],
+    pub out: Text<'a>,
 }
 
 // Reads more behind the text that is there, and answers whether any came. A read that fails counts
@@ -37,50 +32,53 @@ fn fill(input: &mut impl Read, text: &mut Text) -> bool {
     0 < n
 }
 
-impl Player {
-    // A line whose start was too long to be kept is too long, whatever is left of it.
-    fn parse<'a>(&self, line: &'a [u8], space: &mut [u8]) -> Result<Parsed<'a>, Wrong>
-        ensures { IfOk result (λ p. p.n ≤ length space.new) }
-    {
-        if self.long {
-            return Err(Wrong::LineTooLong);
-        }
-        if self.line == 1 {
-            return lines::parse_first(line, space);
-        }
-        lines::parse(line, space)
+// A line whose start was too long to be kept is too long, whatever is left of it.
+fn parse<'a>(number: u64, long: bool, line: &'a [u8], space: &mut [u8]) -> Result<Parsed<'a>, Wrong>
+    ensures { IfOk result (λ p. p.n ≤ length space.new) }
+{
+    if long {
+        return Err(Wrong::LineTooLong);
     }
+    if number == 1 {
+        return lines::parse_first(line, space);
+    }
+    lines::parse(line, space)
+}
 
-    fn run_line(&mut self, line: &[u8], space: &mut [u8], out: &mut Text) {
+impl Player<'_> {
+    fn run_line(&mut self, line: &[u8]) {
         // no script reaches the highest number
         self.line = self.line.saturating_add(1);
-        match self.parse(line, space) {
+        match parse(self.line, self.long, line, self.space) {
             Ok(parsed) => {
-                let bytes = &mut space[..parsed.n];
+                let bytes = &mut self.space[..parsed.n];
                 let answered = calls::perform(self.after, parsed.line, bytes);
-                answers::put_answer(out, parsed.line, &answered, bytes);
+                answers::put_answer(&mut self.out, parsed.line, &answered, bytes);
                 self.after = answered.after;
             }
-            Err(why) => answers::put_error(out, self.line, why),
+            Err(why) => answers::put_error(&mut self.out, self.line, why),
         }
         self.long = false;
     }
 
+    // Where the answers cannot be written it says so, and the script goes on.
+    fn write_out(&mut self, rt: &(impl Print + Eprint)) {
+        let out = &mut self.out;
+        if rt.write_all(&out.bytes[..out.len]).is_err() {
+            let _ = rt.eprintln("play: the answers could not be written");
+        }
+        out.len = 0;
+    }
+
     // Runs the lines of a text that have ended, and answers how many bytes those are.
-    fn run_lines(
-        &mut self,
-        rt: &(impl Print + Eprint),
-        text: &[u8],
-        space: &mut [u8],
-        out: &mut Text,
-    ) -> usize
+    fn run_lines(&mut self, rt: &(impl Print + Eprint), text: &[u8]) -> usize
         ensures { result ≤ length text.now }
     {
         let mut rest = text;
         while let Some(end) = rest.iter().position(|b| *b == b'\n') {
-            self.run_line(&rest[..end], space, out);
-            if HALF <= out.len {
-                write_out(rt, out);
+            self.run_line(&rest[..end]);
+            if HALF <= self.out.len {
+                self.write_out(rt);
             }
             rest = &rest[end + 1..];
         }
@@ -108,18 +106,16 @@ impl Player {
         input: &mut impl Read,
         rt: &(impl Print + Eprint),
         text: &mut Text,
-        space: &mut [u8],
-        out: &mut Text,
     ) -> bool {
         let more = fill(input, text);
         if more {
-            let used = self.run_lines(rt, &text.bytes[..text.len], space, out);
+            let used = self.run_lines(rt, &text.bytes[..text.len]);
             self.keep_rest(text, used);
         } else {
             // the last line, which no line feed ends
-            self.run_line(&text.bytes[..text.len], space, out);
+            self.run_line(&text.bytes[..text.len]);
         }
-        write_out(rt, out);
+        self.write_out(rt);
         more
     }
 }

@@ -16,38 +16,36 @@ fn unpowered() -> Module {
     pd3120::power_up(b"").after
 }
 
+// The bytes of each buffer. All three are arrays, since the player has no heap.
+const BUFFER: usize = 65536;
+
 // A proved loop has to end, and nothing says that the input does. So the turns are counted, up to a
 // number that no run uses up.
-fn play(
-    input: &mut impl Read,
-    rt: &(impl Print + Eprint),
-    text: &mut [u8],
-    space: &mut [u8],
-    out: &mut [u8],
-) {
+fn play(input: &mut impl Read, rt: &(impl Print + Eprint)) {
+    let mut text = [0; BUFFER];
+    let mut space = [0; BUFFER];
+    let mut out = [0; BUFFER];
+    let mut text = Text {
+        bytes: &mut text,
+        len: 0,
+    };
     let mut player = Player {
         after: unpowered(),
         line: 0,
         long: false,
+        space: &mut space,
+        out: Text {
+            bytes: &mut out,
+            len: 0,
+        },
     };
-    let mut text = Text {
-        bytes: text,
-        len: 0,
-    };
-    let mut out = Text { bytes: out, len: 0 };
     for _ in 0..u64::MAX {
-        if !player.take_turn(input, rt, &mut text, space, &mut out) {
+        if !player.take_turn(input, rt, &mut text) {
             break;
         }
     }
 }
 
-// The bytes of each buffer.
-const BUFFER: usize = 65536;
-
 fn main(rt: HostRuntime) {
-    let mut text = [0u8; BUFFER];
-    let mut space = [0u8; BUFFER];
-    let mut out = [0u8; BUFFER];
-    play(&mut rt.stdin(), &rt, &mut text, &mut space, &mut out);
+    play(&mut rt.stdin(), &rt);
 }

@@ -2,6 +2,7 @@
 ghost use Rattle.std.specs.Prelude.{◌≤◌, length};
 
 use crate::charges::Charge;
+use crate::digits::Base;
 use crate::parameters::Wrong;
 use crate::windows::Windows;
 use crate::words::Words;
@@ -59,7 +60,7 @@ fn byte_digits(word: &[u8]) -> Result<&[u8], Wrong> {
     if word == b"-".as_slice() {
         return Ok(b"");
     }
-    if !digits::only_digits(word, 16) {
+    if !digits::only_digits(word, Base::Hexadecimal) {
         return Err(Wrong::NotHexadecimal);
     }
     if word.len() % 2 == 1 {
@@ -68,12 +69,12 @@ fn byte_digits(word: &[u8]) -> Result<&[u8], Wrong> {
     Ok(word)
 }
 
-pub fn parse_power(mut words: Words) -> Result<Line, Wrong> {
+pub(crate) fn parse_power(mut words: Words) -> Result<Line, Wrong> {
     words.are(1)?;
     Ok(Line::Power(byte_digits(words.word()?)?))
 }
 
-pub fn parse_store(mut words: Words) -> Result<Line, Wrong> {
+pub(crate) fn parse_store(mut words: Words) -> Result<Line, Wrong> {
     words.are(1)?;
     let length = parameters::decimal(words.word()?, LONGEST_STORE)?;
     Ok(Line::Store(length as usize))
@@ -86,41 +87,40 @@ fn parse_wire(mut words: Words) -> Result<(u16, &[u8]), Wrong> {
     Ok((swno, byte_digits(words.word()?)?))
 }
 
-pub fn parse_read(words: Words) -> Result<Line, Wrong> {
+pub(crate) fn parse_read(words: Words) -> Result<Line, Wrong> {
     let (swno, lent) = parse_wire(words)?;
     Ok(Line::Read(swno, lent))
 }
 
-pub fn parse_write(words: Words) -> Result<Line, Wrong> {
+pub(crate) fn parse_write(words: Words) -> Result<Line, Wrong> {
     let (swno, bytes) = parse_wire(words)?;
     Ok(Line::Write(swno, bytes))
 }
 
-pub fn parse_sample(mut words: Words) -> Result<Line, Wrong> {
+pub(crate) fn parse_sample(mut words: Words) -> Result<Line, Wrong> {
     words.are(3)?;
-    let channel = parameters::decimal(words.word()?, 255)?;
+    let channel = parameters::whole(words.word()?)?;
     let level = parameters::bit(words.word()?)?;
     let real = parameters::bits(words.word()?)?;
-    Ok(Line::Sample(channel as u8, level, real))
+    Ok(Line::Sample(channel, level, real))
 }
 
-pub fn parse_look_up(mut words: Words) -> Result<Line, Wrong> {
+pub(crate) fn parse_look_up(mut words: Words) -> Result<Line, Wrong> {
     words.are(2)?;
-    let table = parameters::decimal(words.word()?, 255)?;
+    let table = parameters::whole(words.word()?)?;
     let real = parameters::bits(words.word()?)?;
-    Ok(Line::LookUp(table as u8, real))
+    Ok(Line::LookUp(table, real))
 }
 
-pub fn parse_tick(mut words: Words) -> Result<Line, Wrong> {
+pub(crate) fn parse_tick(mut words: Words) -> Result<Line, Wrong> {
     if words.count() == 0 {
         return Ok(Line::Tick(1));
     }
     words.are(1)?;
-    let ticks = parameters::decimal(words.word()?, 4294967295)?;
-    Ok(Line::Tick(ticks as u32))
+    Ok(Line::Tick(parameters::whole(words.word()?)?))
 }
 
-pub fn parse_outputs(words: Words) -> Result<Line, Wrong> {
+pub(crate) fn parse_outputs(words: Words) -> Result<Line, Wrong> {
     words.are(0)?;
     Ok(Line::Outputs)
 }

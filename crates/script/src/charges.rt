@@ -1,13 +1,11 @@
 // The words of a charge: EARLIER LATER LITRES [LIMIT PRICE].. PRICE.
-ghost use Rattle.std.specs.Prelude.{◌≤◌, IfSome};
-
 use crate::calls::Line;
 use crate::parameters;
 use crate::parameters::Wrong;
 use crate::words::Words;
 
 // The blocks of a charge: how many there are, and the limits and prices of the first. The arrays
-// are as long as those of a tariff.
+// are as long as those of a tariff of the charge, which has no heap either.
 #[derive(Clone, Copy)]
 pub struct Blocks {
     pub count: u32,
@@ -26,12 +24,10 @@ pub struct Charge {
 
 // How many blocks a charge of so many words has, up to eight: the three words before the blocks, and
 // two for each block but the last, which has one.
-fn block_count(words: usize) -> Option<usize>
-    ensures { IfSome result (λ n. n ≤ 8) }
-{
+fn block_count(words: usize) -> Option<u32> {
     match words {
         3 => Some(0),
-        4 | 6 | 8 | 10 | 12 | 14 | 16 | 18 => Some((words - 2) / 2),
+        4 | 6 | 8 | 10 | 12 | 14 | 16 | 18 => Some(((words - 2) / 2) as u32),
         _ => None,
     }
 }
@@ -44,21 +40,19 @@ fn put<T: Copy>(numbers: &mut [T], j: usize, number: T) {
 }
 
 // The words of so many blocks. Before each price but the last stands a limit.
-fn take_blocks(count: usize, words: &mut Words) -> Result<Blocks, Wrong>
-    requires { count ≤ 8 }
-{
+fn take_blocks(count: u32, words: &mut Words) -> Result<Blocks, Wrong> {
     let mut blocks = Blocks {
-        count: count as u32,
+        count,
         limits: [0; 3],
         prices: [0; 4],
     };
-    for j in 0..count {
-        if j + 1 < count {
-            let limit = parameters::decimal(words.word()?, u64::MAX)?;
+    for j in 0..count as usize {
+        if j + 1 < count as usize {
+            let limit = parameters::whole(words.word()?)?;
             put(&mut blocks.limits, j, limit);
         }
-        let price = parameters::decimal(words.word()?, 4294967295)?;
-        put(&mut blocks.prices, j, price as u32);
+        let price = parameters::whole(words.word()?)?;
+        put(&mut blocks.prices, j, price);
     }
     Ok(blocks)
 }
@@ -67,12 +61,12 @@ pub(crate) fn parse_charge<'a>(mut words: Words) -> Result<Line<'a>, Wrong> {
     let count = block_count(words.count()).ok_or(Wrong::WordCount)?;
     let earlier = parameters::bits(words.word()?)?;
     let later = parameters::bits(words.word()?)?;
-    let litres = parameters::decimal(words.word()?, 4294967295)?;
+    let litres = parameters::whole(words.word()?)?;
     let blocks = take_blocks(count, &mut words)?;
     Ok(Line::Charge(Charge {
         earlier,
         later,
-        litres: litres as u32,
+        litres,
         blocks,
     }))
 }

@@ -2,20 +2,36 @@
 ghost use Rattle.std.specs.Prelude.{◌≡◌, ◌+◌, ◌<◌, ◌≤◌, length, take, IfSome};
 ghost use Rattle.script.specs.Digits.{last_digits, IsDigitCount};
 
+// The bases that numbers are read in.
+#[derive(Clone, Copy)]
+pub(crate) enum Base {
+    Decimal,
+    Hexadecimal,
+}
+
+impl Base {
+    fn radix(self) -> u32
+        ensures { (2 ≤ result) × (result ≤ 36) }
+    {
+        match self {
+            Base::Decimal => 10,
+            Base::Hexadecimal => 16,
+        }
+    }
+}
+
 // Whether a word has a digit and nothing but digits of the base.
-pub fn only_digits(word: &[u8], base: u32) -> bool
-    requires { (2 ≤ base) × (base ≤ 36) }
-{
-    !word.is_empty() && word.iter().all(|b| char::from(*b).is_digit(base))
+pub(crate) fn only_digits(word: &[u8], base: Base) -> bool {
+    let radix = base.radix();
+    !word.is_empty() && word.iter().all(|b| char::from(*b).is_digit(radix))
 }
 
 // The number that a word of digits writes, where it is at most the highest allowed.
-pub(crate) fn parse_number(word: &[u8], base: u32, highest: u64) -> Option<u64>
-    requires { (2 ≤ base) × (base ≤ 36) }
+pub(crate) fn parse_number(word: &[u8], base: Base, highest: u64) -> Option<u64>
     ensures { IfSome result (λ n. n ≤ highest) }
 {
     let text = str::from_utf8(word).ok()?;
-    let n = u64::from_str_radix(text, base).ok()?;
+    let n = u64::from_str_radix(text, base.radix()).ok()?;
     if highest < n {
         return None;
     }
@@ -31,7 +47,7 @@ fn value(b: u8) -> u8
 
 // The bytes that pairs of digits write, at the start of out, as many as there is room for; answers
 // how many.
-pub fn parse_bytes(word: &[u8], out: &mut [u8]) -> usize
+pub(crate) fn parse_bytes(word: &[u8], out: &mut [u8]) -> usize
     ensures { result ≤ length out.new }
 {
     let (pairs, _) = word.as_chunks::<2>();
@@ -73,7 +89,8 @@ fn write_digits(n: u64, k: usize, out: &mut [u8])
     }
 }
 
-// Puts a number's decimal digits at the start of out, and answers how many there are.
+// Puts a number's decimal digits at the start of out, and answers how many there are. It is written
+// here, and not left to `{}`, for its clause `digits`: that is a definition of specs/Digits.antt.
 pub(crate) fn decimal(n: u64, out: &mut [u8; 20]) -> usize
     ensures in_bounds { result ≤ length out.new }
     ensures len { IsDigitCount n result }

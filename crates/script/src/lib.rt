@@ -10,4 +10,4 @@ pub mod lines;
 pub mod parameters;
 pub mod print;
 pub mod windows;
-pub mod words;
+mod words;

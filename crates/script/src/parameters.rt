@@ -2,6 +2,7 @@
 ghost use Rattle.std.specs.Prelude.{◌≤◌, IfOk};
 
 use crate::digits;
+use crate::digits::Base;
 use std::error::Error;
 use std::fmt;
 
@@ -36,8 +37,7 @@ impl fmt::Display for Wrong {
 impl Error for Wrong {}
 
 // The number that a word writes in digits of the base; `otherwise` where it has others.
-fn number(word: &[u8], base: u32, highest: u64, otherwise: Wrong) -> Result<u64, Wrong>
-    requires { (2 ≤ base) × (base ≤ 36) }
+fn number(word: &[u8], base: Base, highest: u64, otherwise: Wrong) -> Result<u64, Wrong>
     ensures { IfOk result (λ n. n ≤ highest) }
 {
     if !digits::only_digits(word, base) {
@@ -49,13 +49,23 @@ fn number(word: &[u8], base: u32, highest: u64, otherwise: Wrong) -> Result<u64,
 pub fn decimal(word: &[u8], highest: u64) -> Result<u64, Wrong>
     ensures { IfOk result (λ n. n ≤ highest) }
 {
-    number(word, 10, highest, Wrong::NotDecimal)
+    number(word, Base::Decimal, highest, Wrong::NotDecimal)
 }
 
 pub fn hexadecimal(word: &[u8], highest: u64) -> Result<u64, Wrong>
     ensures { IfOk result (λ n. n ≤ highest) }
 {
-    number(word, 16, highest, Wrong::NotHexadecimal)
+    number(word, Base::Hexadecimal, highest, Wrong::NotHexadecimal)
+}
+
+// A decimal number that its type holds.
+pub(crate) fn whole<N: TryFrom<u64>>(word: &[u8]) -> Result<N, Wrong>
+where
+    N::Error: Drop,
+{
+    N::try_from(decimal(word, u64::MAX)?)
+        .ok()
+        .ok_or(Wrong::TooLarge)
 }
 
 // A SWNo, which may have '$', "0x" or "0X" before its digits.
@@ -64,7 +74,7 @@ pub fn swno(word: &[u8]) -> Result<u16, Wrong> {
         [b'$', digits @ ..] | [b'0', b'x' | b'X', digits @ ..] => digits,
         _ => word,
     };
-    Ok(hexadecimal(digits, 65535)? as u16)
+    Ok(hexadecimal(digits, 0xFFFF)? as u16)
 }
 
 // The eight digits of 32 bits: of a Real, or of a Counter as it is read.
@@ -72,7 +82,7 @@ pub fn bits(word: &[u8]) -> Result<u32, Wrong> {
     if word.len() != 8 {
         return Err(Wrong::NotHexadecimal);
     }
-    Ok(hexadecimal(word, 4294967295)? as u32)
+    Ok(hexadecimal(word, 0xFFFF_FFFF)? as u32)
 }
 
 pub(crate) fn bit(word: &[u8]) -> Result<bool, Wrong> {

@@ -20,19 +20,20 @@ pub struct Windows {
 const MOST_WORDS: usize = 33;
 
 // Any number of 16 bits is read: which of them are minutes of a week is the box's own question.
-const HIGHEST: u64 = 65535;
+fn take_minute(words: &mut Words) -> Result<u16, Wrong> {
+    parameters::whole(words.word()?)
+}
 
 pub(crate) fn parse_minute<'a>(mut words: Words) -> Result<Line<'a>, Wrong> {
     words.are(1)?;
-    let minute = parameters::decimal(words.word()?, HIGHEST)?;
-    Ok(Line::Minute(minute as u16))
+    Ok(Line::Minute(take_minute(&mut words)?))
 }
 
 // The two words of a window, as one number.
 fn take_window(words: &mut Words) -> Result<u32, Wrong> {
-    let start = parameters::decimal(words.word()?, HIGHEST)?;
-    let end = parameters::decimal(words.word()?, HIGHEST)?;
-    Ok((start * 65536 + end) as u32)
+    let start = u32::from(take_minute(words)?);
+    let end = u32::from(take_minute(words)?);
+    Ok(start << 16 | end)
 }
 
 // The channel alone, or two words more for each window.
@@ -41,11 +42,11 @@ pub(crate) fn parse_windows<'a>(mut words: Words) -> Result<Line<'a>, Wrong> {
     if MOST_WORDS < all || all % 2 == 0 {
         return Err(Wrong::WordCount);
     }
-    let channel = parameters::decimal(words.word()?, 255)?;
+    let channel = parameters::whole(words.word()?)?;
     let count = all / 2;
     let mut numbers = [0; 16];
     for number in &mut numbers[..count] {
         *number = take_window(&mut words)?;
     }
-    Ok(Line::Windows(channel as u8, Windows { count, numbers }))
+    Ok(Line::Windows(channel, Windows { count, numbers }))
 }

@@ -11,7 +11,7 @@ fn separates(b: u8) -> bool {
 
 // The words of a text, of which it holds what is left.
 #[derive(Clone, Copy)]
-pub struct Words<'a>(pub &'a [u8]);
+pub(crate) struct Words<'a>(pub(crate) &'a [u8]);
 
 impl<'a> Iterator for Words<'a> {
     type Item = &'a [u8];
