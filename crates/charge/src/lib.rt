@@ -19,22 +19,18 @@ pub struct Tariff {
     pub prices: [u32; 4],
 }
 
-// Why a charge is refused.
+// Why a charge is refused, with the numbers of document 02.
 #[derive(Clone, Copy, Debug, PartialEq, Eq)]
 pub enum ChargeRefusal {
-    LitresPerPulse,
-    Blocks,
+    LitresPerPulse = 16,
+    Blocks = 17,
 }
 
 impl ChargeRefusal {
-    // Its number in document 02.
     pub fn number(self) -> u8
         ensures { result ≡ number_of self }
     {
-        match self {
-            ChargeRefusal::LitresPerPulse => 16,
-            ChargeRefusal::Blocks => 17,
-        }
+        self as u8
     }
 }
 

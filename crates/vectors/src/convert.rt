@@ -1,98 +1,123 @@
 // What a word becomes: the functions that the box runs, by the kinds that reference/vectors names.
-use crate::answer;
+ghost use Rattle.std.specs.Prelude.{◌≡◌, true, OnOk};
+
 use counts::{OperatingCount, TimerCount};
 use integers::bytes;
 use numbers::{reals, times, written};
-use std::io;
 
-fn write_timer(out: &impl Print, x: f32) -> io::Result<()> {
-    if written::timer_allowed(x) {
-        return answer::signed(out, times::timer_count(x).0);
-    }
-    answer::none(out, b'-')
+// Why a word becomes nothing.
+#[derive(Clone, Copy)]
+pub enum NoAnswer {
+    OutOfRange,
+    UnknownKind,
 }
 
-fn write_preset(out: &impl Print, x: f32) -> io::Result<()> {
-    if written::preset_allowed(x) {
-        return answer::signed(out, times::timer_count(x).0);
+// A word's four bytes, and what the box reads in them.
+#[derive(Clone, Copy)]
+pub struct Word(pub [u8; 4]);
+
+impl Word {
+    fn real(self) -> f32 {
+        let [a, b, c, d] = self.0;
+        reals::of_bytes(a, b, c, d)
     }
-    answer::none(out, b'-')
+
+    fn signed(self) -> i32 {
+        let [a, b, c, d] = self.0;
+        bytes::i32_of_bytes(a, b, c, d)
+    }
+
+    fn unsigned(self) -> u32 {
+        let [a, b, c, d] = self.0;
+        bytes::u32_of_bytes(a, b, c, d)
+    }
+
+    // Of a kind of two bytes.
+    fn short(self) -> u16 {
+        let [_, _, c, d] = self.0;
+        bytes::u16_of_bytes(c, d)
+    }
+
+    fn timer(self) -> TimerCount {
+        TimerCount(self.signed())
+    }
+
+    fn operating(self) -> OperatingCount {
+        OperatingCount(self.unsigned())
+    }
 }
 
-fn write_operating(out: &impl Print, x: f32) -> io::Result<()> {
-    if written::operating_allowed(x) {
-        return answer::unsigned(out, times::operating_count(x).0);
-    }
-    answer::none(out, b'-')
-}
-
-// A current is kept as it is.
-fn write_current(out: &impl Print, allowed: bool, x: f32) -> io::Result<()> {
+fn ask(allowed: bool) -> Result<(), NoAnswer>
+    ensures { OnOk result (allowed ≡ true) }
+{
     if allowed {
-        return answer::real(out, x);
+        Ok(())
+    } else {
+        Err(NoAnswer::OutOfRange)
     }
-    answer::none(out, b'-')
 }
 
-// A Real written to a register: question 7, then the value.
-fn write(out: &impl Print, kind: u8, x: f32) -> io::Result<()> {
+// A Real written to a register: question 7, then the value. A current is kept as it is.
+fn write(kind: u8, x: f32) -> Result<[u8; 4], NoAnswer> {
     match kind {
-        b't' => write_timer(out, x),
-        b'p' => write_preset(out, x),
-        b'o' => write_operating(out, x),
-        b'l' => write_current(out, written::limit_allowed(x), x),
-        b'c' => write_current(out, reals::is_finite(x), x),
-        _ => answer::none(out, b'?'),
+        b't' => {
+            ask(written::timer_allowed(x))?;
+            Ok(bytes::bytes_of_i32(times::timer_count(x).0))
+        }
+        b'p' => {
+            ask(written::preset_allowed(x))?;
+            Ok(bytes::bytes_of_i32(times::timer_count(x).0))
+        }
+        b'o' => {
+            ask(written::operating_allowed(x))?;
+            Ok(bytes::bytes_of_u32(times::operating_count(x).0))
+        }
+        b'l' => {
+            ask(written::limit_allowed(x))?;
+            Ok(reals::bytes_of(x))
+        }
+        b'c' => {
+            ask(reals::is_finite(x))?;
+            Ok(reals::bytes_of(x))
+        }
+        _ => Err(NoAnswer::UnknownKind),
     }
 }
 
 // A count, or a Real, read as a Real.
-fn read(out: &impl Print, kind: u8, x: f32, z: i32, n: u32) -> io::Result<()> {
-    match kind {
-        b't' => answer::real(out, times::timer_real(TimerCount(z))),
-        b'o' => answer::real(out, times::operating_real(OperatingCount(n))),
-        b'b' => answer::real(out, x),
-        _ => answer::none(out, b'?'),
-    }
+fn read(kind: u8, word: Word) -> Result<[u8; 4], NoAnswer> {
+    let x = match kind {
+        b't' => times::timer_real(word.timer()),
+        b'o' => times::operating_real(word.operating()),
+        b'b' => word.real(),
+        _ => return Err(NoAnswer::UnknownKind),
+    };
+    Ok(reals::bytes_of(x))
 }
 
-fn tick(kind: u8, t: TimerCount) -> TimerCount {
-    match kind {
-        b'o' => t.out_timer_tick(),
-        b'f' => t.feedback_tick(),
-        b'w' => t.watchdog_tick(),
-        _ => t.free_run_tick(),
-    }
+// A timer's count, or Counter or an operating count, one step on.
+fn step(kind: u8, word: Word) -> Result<[u8; 4], NoAnswer> {
+    let n = match kind {
+        b'o' => word.timer().out_timer_tick().0,
+        b'f' => word.timer().feedback_tick().0,
+        b'w' => word.timer().watchdog_tick().0,
+        b'r' => word.timer().free_run_tick().0,
+        b'c' => counts::counter_step(word.signed()),
+        b'p' => return Ok(bytes::bytes_of_u32(word.operating().step().0)),
+        _ => return Err(NoAnswer::UnknownKind),
+    };
+    Ok(bytes::bytes_of_i32(n))
 }
 
-// A count, or Counter, one step on.
-fn step(out: &impl Print, kind: u8, z: i32, n: u32) -> io::Result<()> {
-    match kind {
-        b'o' | b'f' | b'w' | b'r' => answer::signed(out, tick(kind, TimerCount(z)).0),
-        b'c' => answer::signed(out, counts::counter_step(z)),
-        b'p' => answer::unsigned(out, OperatingCount(n).step().0),
-        _ => answer::none(out, b'?'),
-    }
-}
-
-// A kind of two bytes is a number of 16 bits, in 32.
-pub fn convert(
-    out: &impl Print,
-    first: u8,
-    second: u8,
-    a: u8,
-    b: u8,
-    c: u8,
-    d: u8,
-) -> io::Result<()> {
-    let x = reals::of_bytes(a, b, c, d);
-    let z = bytes::i32_of_bytes(a, b, c, d);
-    let n = bytes::u32_of_bytes(a, b, c, d);
+// By the kind's two letters, which are matched where they choose: an enum would be a second list of the same kinds. A kind
+// of two bytes is a number of 16 bits, in 32.
+pub fn convert(kind: [u8; 2], word: Word) -> Result<[u8; 4], NoAnswer> {
+    let [first, second] = kind;
     match first {
-        b'w' => write(out, second, x),
-        b'r' => read(out, second, x, z, n),
-        b's' => step(out, second, z, n),
-        b'u' => answer::unsigned(out, bytes::u16_of_bytes(c, d) as u32),
-        _ => answer::none(out, b'?'),
+        b'w' => write(second, word.real()),
+        b'r' => read(second, word),
+        b's' => step(second, word),
+        b'u' => Ok(bytes::bytes_of_u32(word.short() as u32)),
+        _ => Err(NoAnswer::UnknownKind),
     }
 }

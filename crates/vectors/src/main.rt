@@ -4,14 +4,14 @@
 
 ghost use Rattle.std.specs.Prelude.{◌≤◌, length, IfOk};
 
-mod answer;
 mod convert;
 mod reply;
 
 use std::io;
 use std::io::Read;
 
-// Reads until the line is full or the input ends, and answers how many bytes it put at the line's start.
+// Reads until the line is full or the input ends, and answers how many bytes it put at the line's start: `read_exact` would
+// not say how many.
 fn read_full(input: &mut impl Read, line: &mut [u8; 12]) -> io::Result<usize>
     ensures { IfOk result (λ n. n ≤ length line.new) }
 {

@@ -1,67 +1,46 @@
 // The reply to a line.
-ghost use Rattle.std.specs.Prelude.{◌<◌};
-
-use crate::answer::end_line;
-use crate::convert::convert;
+use crate::convert::{NoAnswer, Word, convert};
 use std::io;
 
-fn is_digit(b: u8) -> bool {
-    if b <= b'9' {
-        return b'0' <= b;
-    }
-    if b < b'a' {
-        return false;
-    }
-    b <= b'f'
-}
-
-// Whether a line `KK WWWWWWWW` may have `b` at `i`, past the kind.
-fn allowed(i: usize, b: u8) -> bool {
-    match i {
-        2 => b == b' ',
-        11 => b == b'\n',
-        _ => is_digit(b),
+fn digit(b: u8) -> Option<u32> {
+    match b {
+        b'0'..=b'9' => Some((b - b'0') as u32),
+        b'a'..=b'f' => Some((b - b'a' + 10) as u32),
+        _ => None,
     }
 }
 
-// Whether a line is `KK WWWWWWWW`.
-fn well_formed(line: &[u8; 12]) -> bool {
-    let mut i = 2;
-    while i < 12 && allowed(i, line[i]) {
-        i += 1;
+// The word of a line `KK WWWWWWWW`, or none where the line is malformed.
+fn word_of(line: &[u8; 12]) -> Option<Word> {
+    if line[2] != b' ' || line[11] != b'\n' {
+        return None;
     }
-    i == 12
+    let mut word: u32 = 0;
+    for b in &line[3..11] {
+        word = (word << 4) | digit(*b)?;
+    }
+    Some(Word(word.to_be_bytes()))
 }
 
-// The value of a digit: letters are 64 and more, and 'a' is 1 past a multiple of 16. Any other byte has some value too.
-fn value(digit: u8) -> u8
-    ensures { result < 16 }
-{
-    (digit % 16 + digit / 64 * 9) % 16
-}
-
-fn byte_at(line: &[u8; 12], at: usize) -> u8
-    requires { at < 11 }
-{
-    value(line[at]) * 16 + value(line[at + 1])
-}
-
-fn answer(out: &impl Print, line: &[u8; 12]) -> io::Result<()> {
-    let a = byte_at(line, 3);
-    let b = byte_at(line, 5);
-    let c = byte_at(line, 7);
-    let d = byte_at(line, 9);
-    convert(out, line[0], line[1], a, b, c, d)?;
-    end_line(out)
+// The eight characters of an answer: its number, whatever the bytes stand for, or the mark of why there is none.
+fn answer(out: &impl Print, answer: Result<[u8; 4], NoAnswer>) -> io::Result<()> {
+    match answer {
+        Ok(bytes) => {
+            let n = u32::from_be_bytes(bytes);
+            println!(out; "{n:08x}")
+        }
+        Err(NoAnswer::OutOfRange) => println!(out; "--------"),
+        Err(NoAnswer::UnknownKind) => println!(out; "????????"),
+    }
 }
 
 // The answer stands in the line, after a space in place of the line's end.
 pub fn reply(out: &impl Print, line: [u8; 12]) -> io::Result<()> {
-    let mut text = line;
-    if !well_formed(&text) {
+    let Some(word) = word_of(&line) else {
         return out.write_all(b"malformed line\n");
-    }
+    };
+    let mut text = line;
     text[11] = b' ';
     out.write_all(&text)?;
-    answer(out, &text)
+    answer(out, convert([line[0], line[1]], word))
 }
