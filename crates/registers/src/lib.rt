@@ -91,33 +91,24 @@ pub fn place_of(swno: u16) -> Place
 {
     let channel = swno / 0x10;
     let register = swno % 0x10;
-    if channel == 0 {
-        return service_place(register);
+    match channel {
+        0 => service_place(register),
+        1..=16 => digital_place(channel as u8, register),
+        17 => common_place(register),
+        19 => data_place(register),
+        _ => Place::Unlisted,
     }
-    if channel == 17 {
-        return common_place(register);
-    }
-    if channel == 19 {
-        return data_place(register);
-    }
-    if 16 < channel {
-        return Place::Unlisted;
-    }
-    digital_place(channel as u8, register)
 }
 
 // A channel's place among the sixteen, counted from 0. For a number that is no channel's it is that
-// of channel 1.
+// of channel 1. A plain number, and no type that holds `result < 16`: the callers take it as an index.
 pub fn slot(channel: usize) -> usize
     ensures { (result ≡ slot_of channel) × (result < 16) }
 {
-    if channel < 1 {
-        return 0;
+    match channel {
+        1..=16 => channel - 1,
+        _ => 0,
     }
-    if 16 < channel {
-        return 0;
-    }
-    channel - 1
 }
 
 // That of a SWNo's channel.
@@ -127,168 +118,119 @@ pub fn wire_slot(swno: u16) -> usize
     slot((swno / 0x10) as usize)
 }
 
-fn service_access(r: ServiceRegister) -> Access
-    ensures { result ≡ (Table.service_row r).access }
-{
-    match r {
-        ServiceRegister::Highest => Access::ReadOnly,
-        ServiceRegister::Reset => Access::Writable,
-        ServiceRegister::FreeRunTimer => Access::ReadOnly,
-        ServiceRegister::WDTimer => Access::Writable,
-        ServiceRegister::ModuleConfig => Access::Protected,
-        ServiceRegister::WDPreset => Access::Protected,
-        ServiceRegister::WriteEnable => Access::Writable,
-        ServiceRegister::CommonError => Access::Writable,
+// A register's access and size.
+#[derive(Clone, Copy)]
+struct Row {
+    access: Access,
+    size: usize,
+}
+
+impl Row {
+    fn new(access: Access, size: usize) -> Row
+        ensures { result ≡ record { access = access; size = size } }
+    {
+        Row { access, size }
     }
 }
 
-fn digital_access(r: DigitalRegister) -> Access
-    ensures { result ≡ (Table.digital_row r).access }
+fn service_row(r: ServiceRegister) -> Row
+    ensures access { result.access ≡ (Table.service_row r).access }
+    ensures size { result.size ≡ (Table.service_row r).size }
 {
     match r {
-        DigitalRegister::FlagReg => Access::Writable,
-        DigitalRegister::OutTimer => Access::Writable,
-        DigitalRegister::Counter => Access::Writable,
-        DigitalRegister::OutCurrent => Access::Writable,
-        DigitalRegister::OperatingTime => Access::Writable,
-        DigitalRegister::UserBytes => Access::Writable,
-        DigitalRegister::FBTimer => Access::Writable,
-        DigitalRegister::FBPreset => Access::Protected,
-        DigitalRegister::OutPreset => Access::Protected,
-        DigitalRegister::ChConfig => Access::Protected,
-        DigitalRegister::MinCurrent => Access::Protected,
-        DigitalRegister::MaxCurrent => Access::Protected,
-        DigitalRegister::UserReals => Access::Protected,
-        DigitalRegister::Maintenance => Access::Protected,
-        DigitalRegister::ChError => Access::ReadOnly,
+        ServiceRegister::Highest => Row::new(Access::ReadOnly, 2),
+        ServiceRegister::Reset => Row::new(Access::Writable, 1),
+        ServiceRegister::FreeRunTimer => Row::new(Access::ReadOnly, 4),
+        ServiceRegister::WDTimer => Row::new(Access::Writable, 4),
+        ServiceRegister::ModuleConfig => Row::new(Access::Protected, 4),
+        ServiceRegister::WDPreset => Row::new(Access::Protected, 4),
+        ServiceRegister::WriteEnable => Row::new(Access::Writable, 1),
+        ServiceRegister::CommonError => Row::new(Access::Writable, 12),
     }
 }
 
-fn common_access(r: CommonRegister) -> Access
-    ensures { result ≡ (Table.common_row r).access }
+fn digital_row(r: DigitalRegister) -> Row
+    ensures access { result.access ≡ (Table.digital_row r).access }
+    ensures size { result.size ≡ (Table.digital_row r).size }
 {
     match r {
-        CommonRegister::OutFlags => Access::Writable,
-        CommonRegister::InFlags => Access::Writable,
-        CommonRegister::IOChError => Access::ReadOnly,
-        CommonRegister::ChError => Access::ReadOnly,
+        DigitalRegister::FlagReg => Row::new(Access::Writable, 1),
+        DigitalRegister::OutTimer => Row::new(Access::Writable, 4),
+        DigitalRegister::Counter => Row::new(Access::Writable, 4),
+        DigitalRegister::OutCurrent => Row::new(Access::Writable, 4),
+        DigitalRegister::OperatingTime => Row::new(Access::Writable, 4),
+        DigitalRegister::UserBytes => Row::new(Access::Writable, 4),
+        DigitalRegister::FBTimer => Row::new(Access::Writable, 4),
+        DigitalRegister::FBPreset => Row::new(Access::Protected, 4),
+        DigitalRegister::OutPreset => Row::new(Access::Protected, 4),
+        DigitalRegister::ChConfig => Row::new(Access::Protected, 4),
+        DigitalRegister::MinCurrent => Row::new(Access::Protected, 4),
+        DigitalRegister::MaxCurrent => Row::new(Access::Protected, 4),
+        DigitalRegister::UserReals => Row::new(Access::Protected, 8),
+        DigitalRegister::Maintenance => Row::new(Access::Protected, 4),
+        DigitalRegister::ChError => Row::new(Access::ReadOnly, 4),
     }
 }
 
-fn data_access(r: DataRegister) -> Access
-    ensures { result ≡ (Table.data_row r).access }
+fn common_row(r: CommonRegister) -> Row
+    ensures access { result.access ≡ (Table.common_row r).access }
+    ensures size { result.size ≡ (Table.common_row r).size }
 {
     match r {
-        DataRegister::RealA => Access::Writable,
-        DataRegister::RealB => Access::Writable,
-        DataRegister::TimerA => Access::Writable,
-        DataRegister::TimerB => Access::Writable,
-        DataRegister::LookUp1 => Access::Protected,
-        DataRegister::LookUp2 => Access::Protected,
+        CommonRegister::OutFlags => Row::new(Access::Writable, 2),
+        CommonRegister::InFlags => Row::new(Access::Writable, 2),
+        CommonRegister::IOChError => Row::new(Access::ReadOnly, 4),
+        CommonRegister::ChError => Row::new(Access::ReadOnly, 4),
+    }
+}
+
+fn data_row(r: DataRegister) -> Row
+    ensures access { result.access ≡ (Table.data_row r).access }
+    ensures size { result.size ≡ (Table.data_row r).size }
+{
+    match r {
+        DataRegister::RealA => Row::new(Access::Writable, 4),
+        DataRegister::RealB => Row::new(Access::Writable, 4),
+        DataRegister::TimerA => Row::new(Access::Writable, 4),
+        DataRegister::TimerB => Row::new(Access::Writable, 4),
+        DataRegister::LookUp1 => Row::new(Access::Protected, 80),
+        DataRegister::LookUp2 => Row::new(Access::Protected, 80),
+    }
+}
+
+fn row_of(p: Place) -> Row
+    ensures access { result.access ≡ Table.access (placed p) }
+    ensures size { result.size ≡ Table.size (placed p) }
+{
+    match p {
+        Place::Service(r) => service_row(r),
+        Place::Digital(_, r) => digital_row(r),
+        Place::Common(r) => common_row(r),
+        Place::Data(r) => data_row(r),
+        Place::Unlisted => Row::new(Access::ReadOnly, 0),
     }
 }
 
 pub fn access(p: Place) -> Access
     ensures { result ≡ Table.access (placed p) }
 {
-    match p {
-        Place::Service(r) => service_access(r),
-        Place::Digital(_, r) => digital_access(r),
-        Place::Common(r) => common_access(r),
-        Place::Data(r) => data_access(r),
-        Place::Unlisted => Access::ReadOnly,
-    }
-}
-
-fn service_size(r: ServiceRegister) -> usize
-    ensures { result ≡ (Table.service_row r).size }
-{
-    match r {
-        ServiceRegister::Highest => 2,
-        ServiceRegister::Reset => 1,
-        ServiceRegister::FreeRunTimer => 4,
-        ServiceRegister::WDTimer => 4,
-        ServiceRegister::ModuleConfig => 4,
-        ServiceRegister::WDPreset => 4,
-        ServiceRegister::WriteEnable => 1,
-        ServiceRegister::CommonError => 12,
-    }
-}
-
-fn digital_size(r: DigitalRegister) -> usize
-    ensures { result ≡ (Table.digital_row r).size }
-{
-    match r {
-        DigitalRegister::FlagReg => 1,
-        DigitalRegister::OutTimer => 4,
-        DigitalRegister::Counter => 4,
-        DigitalRegister::OutCurrent => 4,
-        DigitalRegister::OperatingTime => 4,
-        DigitalRegister::UserBytes => 4,
-        DigitalRegister::FBTimer => 4,
-        DigitalRegister::FBPreset => 4,
-        DigitalRegister::OutPreset => 4,
-        DigitalRegister::ChConfig => 4,
-        DigitalRegister::MinCurrent => 4,
-        DigitalRegister::MaxCurrent => 4,
-        DigitalRegister::UserReals => 8,
-        DigitalRegister::Maintenance => 4,
-        DigitalRegister::ChError => 4,
-    }
-}
-
-fn common_size(r: CommonRegister) -> usize
-    ensures { result ≡ (Table.common_row r).size }
-{
-    match r {
-        CommonRegister::OutFlags => 2,
-        CommonRegister::InFlags => 2,
-        CommonRegister::IOChError => 4,
-        CommonRegister::ChError => 4,
-    }
-}
-
-fn data_size(r: DataRegister) -> usize
-    ensures { result ≡ (Table.data_row r).size }
-{
-    match r {
-        DataRegister::RealA => 4,
-        DataRegister::RealB => 4,
-        DataRegister::TimerA => 4,
-        DataRegister::TimerB => 4,
-        DataRegister::LookUp1 => 80,
-        DataRegister::LookUp2 => 80,
-    }
+    row_of(p).access
 }
 
 pub fn size(p: Place) -> usize
     ensures { result ≡ Table.size (placed p) }
 {
-    match p {
-        Place::Service(r) => service_size(r),
-        Place::Digital(_, r) => digital_size(r),
-        Place::Common(r) => common_size(r),
-        Place::Data(r) => data_size(r),
-        Place::Unlisted => 0,
-    }
+    row_of(p).size
 }
 
 pub fn is_writable(a: Access) -> bool
     ensures { result ≡ is_writable a }
 {
-    match a {
-        Access::ReadOnly => false,
-        Access::Writable => true,
-        Access::Protected => true,
-    }
+    matches!(a, Access::Writable | Access::Protected)
 }
 
 pub fn is_protected(a: Access) -> bool
     ensures { result ≡ is_protected a }
 {
-    match a {
-        Access::ReadOnly => false,
-        Access::Writable => false,
-        Access::Protected => true,
-    }
+    matches!(a, Access::Protected)
 }

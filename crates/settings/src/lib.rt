@@ -25,25 +25,13 @@ pub fn function_of(n: u8) -> Function
 pub fn not_input(f: Function) -> bool
     ensures { result ≡ not_input f }
 {
-    match f {
-        Function::Input => false,
-        Function::Output => true,
-        Function::OneShot => true,
-        Function::DutyCycle => true,
-        Function::Timer => true,
-    }
+    !matches!(f, Function::Input)
 }
 
 pub fn is_special(f: Function) -> bool
     ensures { result ≡ is_special f }
 {
-    match f {
-        Function::Input => false,
-        Function::Output => false,
-        Function::OneShot => true,
-        Function::DutyCycle => true,
-        Function::Timer => true,
-    }
+    matches!(f, Function::OneShot | Function::DutyCycle | Function::Timer)
 }
 
 pub fn functions(ch: Channel) -> Function
@@ -117,10 +105,7 @@ pub fn silences_overload(ch: Channel) -> bool
 pub fn bit_of(word: u16, k: usize) -> bool
     ensures { result ≡ bit k word }
 {
-    if 15 < k {
-        return false;
-    }
-    (word >> k) % 2 == 1
+    k < 16 && (word >> k) % 2 == 1
 }
 
 // InFlag of a reference. Bit k-1 of levels is InFlag of channel k.
