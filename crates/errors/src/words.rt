@@ -23,22 +23,17 @@ pub fn of_channels(channels: [Channel; 16]) -> Words
     let mut input: u16 = 0;
     let mut his: u16 = 0;
     let mut act: u16 = 0;
-    let mut k = 16;
-    while 0 < k {
-        k -= 1;
-        let ch = channels[k];
-        let h = any_bit(ch.errors.his);
-        let a = any_bit(ch.errors.act);
+    for ch in channels.iter().rev() {
         out = bits::more(out, ch.flags.out_flag);
         input = bits::more(input, ch.flags.in_flag);
-        his = bits::more(his, h);
-        act = bits::more(act, a);
+        his = bits::more(his, any_bit(ch.errors.his));
+        act = bits::more(act, any_bit(ch.errors.act));
     }
     Words {
         out_flags: out,
         in_flags: input,
-        his: his,
-        act: act,
+        his,
+        act,
     }
 }
 
@@ -55,12 +50,9 @@ pub fn any_errors(channels: [Channel; 16]) -> AnyErrors
 {
     let mut his = false;
     let mut act = false;
-    for k in 0..16 {
-        let ch = channels[k];
-        let h = any_bit(ch.errors.his);
-        let a = any_bit(ch.errors.act);
-        his = his | h;
-        act = act | a;
+    for ch in &channels {
+        his |= any_bit(ch.errors.his);
+        act |= any_bit(ch.errors.act);
     }
-    AnyErrors { his: his, act: act }
+    AnyErrors { his, act }
 }

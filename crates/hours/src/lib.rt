@@ -23,10 +23,7 @@ pub fn unset() -> Clock
 pub fn set_to(minute: u16) -> Clock
     ensures { result ≡ clock_at minute }
 {
-    Clock {
-        minute: minute,
-        ticks: 0,
-    }
+    Clock { minute, ticks: 0 }
 }
 
 // Each 1920th tick moves the minute; while it is unset nothing moves.
@@ -40,14 +37,11 @@ pub fn tick(clock: Clock) -> Clock
         return clock;
     }
     if 1919 < ticks {
-        return Clock {
-            minute: minute,
-            ticks: 1,
-        };
+        return Clock { minute, ticks: 1 };
     }
     if ticks < 1919 {
         return Clock {
-            minute: minute,
+            minute,
             ticks: ticks + 1,
         };
     }
@@ -61,10 +55,7 @@ pub fn tick(clock: Clock) -> Clock
 fn time_of(n: u16) -> u16
     ensures { result ≡ time_of n }
 {
-    if n <= 10079 {
-        return n;
-    }
-    0
+    if n <= 10079 { n } else { 0 }
 }
 
 fn within(start: u16, end: u16, now: u16) -> bool
@@ -87,10 +78,8 @@ fn any_opens(now: u16, count: usize, windows: [Window; 8]) -> bool
     ensures { result ≡ any_opens now (take count windows) }
 {
     let mut any = false;
-    for k in 0..count {
-        let w = windows[k];
-        let one = opens(now, w);
-        any = any | one;
+    for w in &windows[..count] {
+        any |= opens(now, *w);
     }
     any
 }
@@ -104,14 +93,10 @@ pub fn closed(clock: Clock, t: Timetable) -> bool
     if 10079 < now {
         return false;
     }
-    if count < 1 {
+    if !(1..=8).contains(&count) {
         return false;
     }
-    if 8 < count {
-        return false;
-    }
-    let windows = t.windows;
-    !any_opens(now, count as usize, windows)
+    !any_opens(now, count as usize, t.windows)
 }
 
 // A window of a call, its start times 65536 plus its end.
@@ -135,31 +120,18 @@ pub fn no_windows() -> Timetable
     }
 }
 
-fn at_most_eight(ns: &[u32]) -> usize
-    ensures { result ≡ length (take 8 ns.now) }
-{
-    if ns.len() < 8 {
-        return ns.len();
-    }
-    8
-}
-
 // The windows of a call, whole. A call with more than eight is refused.
 pub fn timetable_of(ns: &[u32]) -> Timetable
     ensures { result ≡ timetable_of ns.now }
 {
     let none = Window { start: 0, end: 0 };
     let mut windows = [none; 8];
-    let count = at_most_eight(ns);
-    let mut k = 0;
-    while k < count {
-        let n = ns[k];
-        let w = window_of(n);
-        windows[k] = w;
-        k += 1;
+    let count = ns.len().min(8);
+    for k in 0..count {
+        windows[k] = window_of(ns[k]);
     }
     Timetable {
         count: count as u8,
-        windows: windows,
+        windows,
     }
 }

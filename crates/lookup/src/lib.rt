@@ -42,15 +42,13 @@ fn from_first(pairs: [Pair; 10], x: f32) -> f32
     ensures { result ≡ from_first (pair_at (map acting_pair pairs) 1) (drop 1 (map acting_pair pairs)) x }
 {
     let mut before = acting_pair(pairs[0]);
-    let mut k = 1;
-    while k < 10 {
-        let next = acting_pair(pairs[k]);
+    for p in &pairs[1..] {
+        let next = acting_pair(*p);
         if next.x < x {
             before = next;
         } else {
             return on_line(before, next, x);
         }
-        k += 1;
     }
     0.0
 }
@@ -74,9 +72,7 @@ fn looked_up(t: LevelTable, x: f32) -> f32
 fn table_of(k: u8, d: DataChannel) -> LevelTable
     ensures { result ≡ table_of k d }
 {
-    let table1 = d.table1;
-    let table2 = d.table2;
-    if k == 1 { table1 } else { table2 }
+    if k == 1 { d.table1 } else { d.table2 }
 }
 
 // The level's bits. A NaN of the machine may have any of its patterns, and the answer has one.

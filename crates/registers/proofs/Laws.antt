@@ -3,8 +3,7 @@ use mathlib.Core.Path.{◌≡◌, sym}
 use mathlib.Core.Bool.{true}
 use Prim.Native.Nat.{ℕ, ◌-◌, ◌/◌, ◌<◌, ◌≤◌}
 use native.Mathlib.Omega.{arith}
-use lib.Dec.{leb}
-use borrow.Author.Tests.{le-leb, lt-leb}
+use borrow.Author.Tests.{le-leb}
 use Rattle.model.specs.Registers.{place}
 use Rattle.model.specs.Settings.{is_digital}
 use Rattle.model.proofs.Laws.Places.{place-cases}
@@ -15,14 +14,8 @@ use Rattle.registers.specs.Places.{slot_of, OfChannel}
 digital-is : (k : ℕ) → 1 ≤ k → k ≤ 16 → is_digital k ≡ true
 digital-is k l h = rw (le-leb 1 k l, le-leb k 16 h)
 
-pub slot-in : (k : ℕ) → 1 ≤ k → k ≤ 16 → k - 1 ≡ slot_of k
+slot-in : (k : ℕ) → 1 ≤ k → k ≤ 16 → k - 1 ≡ slot_of k
 slot-in k l h = rw (digital-is k l h)
-
-pub slot-below : (k : ℕ) → k < 1 → 0 ≡ slot_of k
-slot-below k l = rw (lt-leb 1 k l)
-
-pub slot-above : (k : ℕ) → 16 < k → 0 ≡ slot_of k
-slot-above k l = let e : leb 1 k ≡ true = le-leb 1 k (omega arith) in rw (e, lt-leb k 16 l)
 
 -- it is one of the sixteen, and the place of a SWNo's channel is that of its register's
 pub slot-fits : (k : ℕ) → slot_of k < 16

@@ -91,33 +91,24 @@ pub fn place_of(swno: u16) -> Place
 {
     let channel = swno / 0x10;
     let register = swno % 0x10;
-    if channel == 0 {
-        return service_place(register);
+    match channel {
+        0 => service_place(register),
+        1..=16 => digital_place(channel as u8, register),
+        17 => common_place(register),
+        19 => data_place(register),
+        _ => Place::Unlisted,
     }
-    if channel == 17 {
-        return common_place(register);
-    }
-    if channel == 19 {
-        return data_place(register);
-    }
-    if 16 < channel {
-        return Place::Unlisted;
-    }
-    digital_place(channel as u8, register)
 }
 
 // A channel's place among the sixteen, counted from 0. For a number that is no channel's it is that
-// of channel 1.
+// of channel 1. A plain number, and no type that holds `result < 16`: the callers take it as an index.
 pub fn slot(channel: usize) -> usize
     ensures { (result ≡ slot_of channel) × (result < 16) }
 {
-    if channel < 1 {
-        return 0;
+    match channel {
+        1..=16 => channel - 1,
+        _ => 0,
     }
-    if 16 < channel {
-        return 0;
-    }
-    channel - 1
 }
 
 // That of a SWNo's channel.
@@ -127,99 +118,115 @@ pub fn wire_slot(swno: u16) -> usize
     slot((swno / 0x10) as usize)
 }
 
-// A register's row of the table: its access, and its size in bytes.
-#[derive(Drop)]
-struct Row(Access, usize);
+// A register's access and size.
+#[derive(Clone, Copy)]
+struct Row {
+    access: Access,
+    size: usize,
+}
+
+impl Row {
+    fn new(access: Access, size: usize) -> Row
+        ensures { result ≡ record { access = access; size = size } }
+    {
+        Row { access, size }
+    }
+}
 
 fn service_row(r: ServiceRegister) -> Row
-    ensures { (result.0 ≡ (Table.service_row r).access) × (result.1 ≡ (Table.service_row r).size) }
+    ensures access { result.access ≡ (Table.service_row r).access }
+    ensures size { result.size ≡ (Table.service_row r).size }
 {
     match r {
-        ServiceRegister::Highest => Row(Access::ReadOnly, 2),
-        ServiceRegister::Reset => Row(Access::Writable, 1),
-        ServiceRegister::FreeRunTimer => Row(Access::ReadOnly, 4),
-        ServiceRegister::WDTimer => Row(Access::Writable, 4),
-        ServiceRegister::ModuleConfig => Row(Access::Protected, 4),
-        ServiceRegister::WDPreset => Row(Access::Protected, 4),
-        ServiceRegister::WriteEnable => Row(Access::Writable, 1),
-        ServiceRegister::CommonError => Row(Access::Writable, 12),
+        ServiceRegister::Highest => Row::new(Access::ReadOnly, 2),
+        ServiceRegister::Reset => Row::new(Access::Writable, 1),
+        ServiceRegister::FreeRunTimer => Row::new(Access::ReadOnly, 4),
+        ServiceRegister::WDTimer => Row::new(Access::Writable, 4),
+        ServiceRegister::ModuleConfig => Row::new(Access::Protected, 4),
+        ServiceRegister::WDPreset => Row::new(Access::Protected, 4),
+        ServiceRegister::WriteEnable => Row::new(Access::Writable, 1),
+        ServiceRegister::CommonError => Row::new(Access::Writable, 12),
     }
 }
 
 fn digital_row(r: DigitalRegister) -> Row
-    ensures { (result.0 ≡ (Table.digital_row r).access) × (result.1 ≡ (Table.digital_row r).size) }
+    ensures access { result.access ≡ (Table.digital_row r).access }
+    ensures size { result.size ≡ (Table.digital_row r).size }
 {
     match r {
-        DigitalRegister::FlagReg => Row(Access::Writable, 1),
-        DigitalRegister::OutTimer => Row(Access::Writable, 4),
-        DigitalRegister::Counter => Row(Access::Writable, 4),
-        DigitalRegister::OutCurrent => Row(Access::Writable, 4),
-        DigitalRegister::OperatingTime => Row(Access::Writable, 4),
-        DigitalRegister::UserBytes => Row(Access::Writable, 4),
-        DigitalRegister::FBTimer => Row(Access::Writable, 4),
-        DigitalRegister::FBPreset => Row(Access::Protected, 4),
-        DigitalRegister::OutPreset => Row(Access::Protected, 4),
-        DigitalRegister::ChConfig => Row(Access::Protected, 4),
-        DigitalRegister::MinCurrent => Row(Access::Protected, 4),
-        DigitalRegister::MaxCurrent => Row(Access::Protected, 4),
-        DigitalRegister::UserReals => Row(Access::Protected, 8),
-        DigitalRegister::Maintenance => Row(Access::Protected, 4),
-        DigitalRegister::ChError => Row(Access::ReadOnly, 4),
+        DigitalRegister::FlagReg => Row::new(Access::Writable, 1),
+        DigitalRegister::OutTimer => Row::new(Access::Writable, 4),
+        DigitalRegister::Counter => Row::new(Access::Writable, 4),
+        DigitalRegister::OutCurrent => Row::new(Access::Writable, 4),
+        DigitalRegister::OperatingTime => Row::new(Access::Writable, 4),
+        DigitalRegister::UserBytes => Row::new(Access::Writable, 4),
+        DigitalRegister::FBTimer => Row::new(Access::Writable, 4),
+        DigitalRegister::FBPreset => Row::new(Access::Protected, 4),
+        DigitalRegister::OutPreset => Row::new(Access::Protected, 4),
+        DigitalRegister::ChConfig => Row::new(Access::Protected, 4),
+        DigitalRegister::MinCurrent => Row::new(Access::Protected, 4),
+        DigitalRegister::MaxCurrent => Row::new(Access::Protected, 4),
+        DigitalRegister::UserReals => Row::new(Access::Protected, 8),
+        DigitalRegister::Maintenance => Row::new(Access::Protected, 4),
+        DigitalRegister::ChError => Row::new(Access::ReadOnly, 4),
     }
 }
 
 fn common_row(r: CommonRegister) -> Row
-    ensures { (result.0 ≡ (Table.common_row r).access) × (result.1 ≡ (Table.common_row r).size) }
+    ensures access { result.access ≡ (Table.common_row r).access }
+    ensures size { result.size ≡ (Table.common_row r).size }
 {
     match r {
-        CommonRegister::OutFlags => Row(Access::Writable, 2),
-        CommonRegister::InFlags => Row(Access::Writable, 2),
-        CommonRegister::IOChError => Row(Access::ReadOnly, 4),
-        CommonRegister::ChError => Row(Access::ReadOnly, 4),
+        CommonRegister::OutFlags => Row::new(Access::Writable, 2),
+        CommonRegister::InFlags => Row::new(Access::Writable, 2),
+        CommonRegister::IOChError => Row::new(Access::ReadOnly, 4),
+        CommonRegister::ChError => Row::new(Access::ReadOnly, 4),
     }
 }
 
 fn data_row(r: DataRegister) -> Row
-    ensures { (result.0 ≡ (Table.data_row r).access) × (result.1 ≡ (Table.data_row r).size) }
+    ensures access { result.access ≡ (Table.data_row r).access }
+    ensures size { result.size ≡ (Table.data_row r).size }
 {
     match r {
-        DataRegister::RealA => Row(Access::Writable, 4),
-        DataRegister::RealB => Row(Access::Writable, 4),
-        DataRegister::TimerA => Row(Access::Writable, 4),
-        DataRegister::TimerB => Row(Access::Writable, 4),
-        DataRegister::LookUp1 => Row(Access::Protected, 80),
-        DataRegister::LookUp2 => Row(Access::Protected, 80),
+        DataRegister::RealA => Row::new(Access::Writable, 4),
+        DataRegister::RealB => Row::new(Access::Writable, 4),
+        DataRegister::TimerA => Row::new(Access::Writable, 4),
+        DataRegister::TimerB => Row::new(Access::Writable, 4),
+        DataRegister::LookUp1 => Row::new(Access::Protected, 80),
+        DataRegister::LookUp2 => Row::new(Access::Protected, 80),
     }
 }
 
 fn row_of(p: Place) -> Row
-    ensures { (result.0 ≡ Table.access (placed p)) × (result.1 ≡ Table.size (placed p)) }
+    ensures access { result.access ≡ Table.access (placed p) }
+    ensures size { result.size ≡ Table.size (placed p) }
 {
     match p {
         Place::Service(r) => service_row(r),
         Place::Digital(_, r) => digital_row(r),
         Place::Common(r) => common_row(r),
         Place::Data(r) => data_row(r),
-        Place::Unlisted => Row(Access::ReadOnly, 0),
+        Place::Unlisted => Row::new(Access::ReadOnly, 0),
     }
 }
 
 pub fn access(p: Place) -> Access
     ensures { result ≡ Table.access (placed p) }
 {
-    row_of(p).0
+    row_of(p).access
 }
 
 pub fn size(p: Place) -> usize
     ensures { result ≡ Table.size (placed p) }
 {
-    row_of(p).1
+    row_of(p).size
 }
 
 pub fn is_writable(a: Access) -> bool
     ensures { result ≡ is_writable a }
 {
-    !matches!(a, Access::ReadOnly)
+    matches!(a, Access::Writable | Access::Protected)
 }
 
 pub fn is_protected(a: Access) -> bool

@@ -113,10 +113,7 @@ pub fn silences_overload(ch: Channel) -> bool
 pub fn bit_of(word: u16, k: usize) -> bool
     ensures { result ≡ bit k word }
 {
-    if 15 < k {
-        return false;
-    }
-    (word >> k) % 2 == 1
+    k < 16 && (word >> k) % 2 == 1
 }
 
 // InFlag of a reference. Bit k-1 of levels is InFlag of channel k.

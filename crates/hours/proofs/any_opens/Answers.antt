@@ -1,23 +1,11 @@
-use mathlib.Core.Path.{◌≡◌, refl, ◌∙◌}
-use Prim.Native.Nat.{◌<◌}
+use Rattle.std.proofs.Common.{rules, ◌<◌, length, take}
 use native.Mathlib.Numerals.{add-one}
-use native.Mathlib.Omega.{arith}
-use lib.ListN.{length}
-use borrow.Author.Rules.{rules}
 use Rattle.hours.proofs.Laws.{open_next}
 use Rattle.hours.proofs.any_opens.Goals as goal
 
-pub loop-k-init : goal.loop-k-init
-loop-k-init c = (search rules, refl)
-
-pub loop-k-preserved : goal.loop-k-preserved
-loop-k-preserved c =
-    let a = c.args in
-    let l = c.loop-k in
-    let h : l.k < length a.windows = search rules in
-    (omega arith, rw (c.opens-one.ensures, l.invariant.1, add-one) (open_next a.now l.k a.windows _ h))
-
-pub returns : goal.returns
-returns c =
-    let e : c.loop-k.k ≡ c.args.count = omega arith in
-    c.loop-k.invariant.1 ∙ rw e
+pub loop-w-preserved : goal.loop-w-preserved
+loop-w-preserved c =
+    let l = c.loop-w in
+    let ws = take c.args.count c.args.windows in
+    let h : l.w-index < length ws = search rules in
+    rw (c.opens-any.ensures, l.invariant, add-one) (open_next c.args.now l.w-index ws _ h)

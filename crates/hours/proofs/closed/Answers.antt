@@ -1,4 +1,5 @@
 use borrow.Author.Tests.{le-leb, lt-leb}
+use Rattle.std.proofs.Common.{rules, ◌≡◌, true, false, ◌&&◌, nat_le}
 use Rattle.model.specs.Hours.{closed}
 use Rattle.hours.proofs.closed.Goals as goal
 
@@ -7,20 +8,14 @@ pub returns-then-now-gt10079 : goal.returns-then-now-gt10079
 unfolding closed
 returns-then-now-gt10079 c = simp (lt-leb _ _ c.if-now-gt10079.true)
 
-pub returns-then-count-lt1 : goal.returns-then-count-lt1
+pub returns-then-not-contains : goal.returns-then-not-contains
 unfolding closed
-returns-then-count-lt1 c = simp (lt-leb _ _ c.if-count-lt1.true, le-leb _ _ c.if-now-gt10079.false)
-
-pub returns-then-count-gt8 : goal.returns-then-count-gt8
-unfolding closed
-returns-then-count-gt8 c = simp (lt-leb _ _ c.if-count-gt8.true, le-leb _ _ c.if-count-lt1.false, le-leb _ _ c.if-now-gt10079.false)
+returns-then-not-contains c =
+    let e : nat_le 1 c.args.t.count && nat_le c.args.t.count 8 ≡ false = search rules in
+    simp (e, le-leb _ _ c.if-now-gt10079.false)
 
 pub returns : goal.returns
 unfolding closed
 returns c =
-    simp (
-      c.any_opens.ensures,
-      le-leb _ _ c.if-count-gt8.false,
-      le-leb _ _ c.if-count-lt1.false,
-      le-leb _ _ c.if-now-gt10079.false,
-    )
+    let e : nat_le 1 c.args.t.count && nat_le c.args.t.count 8 ≡ true = search rules in
+    simp (c.any_opens.ensures, e, le-leb _ _ c.if-now-gt10079.false)

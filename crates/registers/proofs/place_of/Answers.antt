@@ -1,47 +1,38 @@
-use borrow.Author.Tests.{le-leb, lt-leb, eq-eqb, ne_eqb}
-use native.Mathlib.Omega.{arith}
-use Prim.Native.Nat.{◌/◌}
+use borrow.Author.Tests.{le-leb, lt-leb, ne_eqb}
+use Rattle.std.proofs.Common.{arith, ◌≢◌, ◌/◌, ◌≤◌, ◌<◌}
 use Rattle.model.specs.Registers.{place}
 use Rattle.registers.proofs.place_of.Goals as goal
 
-pub returns-then-channel-eq0 : goal.returns-then-channel-eq0
+pub returns-in-0 : goal.returns-in-0
 unfolding place
-returns-then-channel-eq0 c = simp (eq-eqb _ 0 c.if-channel-eq0.true) c.service_place.ensures
+returns-in-0 c = simp c.in-0.is c.service_place.ensures
 
-pub returns-then-channel-eq17 : goal.returns-then-channel-eq17
+pub returns-in-17 : goal.returns-in-17
 unfolding place
-returns-then-channel-eq17 c = simp (ne_eqb _ 0 c.if-channel-eq0.false, eq-eqb _ 17 c.if-channel-eq17.true) c.common_place.ensures
+returns-in-17 c = simp c.in-17.is c.common_place.ensures
 
-pub returns-then-channel-eq19 : goal.returns-then-channel-eq19
+pub returns-in-19 : goal.returns-in-19
 unfolding place
-returns-then-channel-eq19 c =
-    simp (
-      ne_eqb _ 0 c.if-channel-eq0.false,
-      ne_eqb _ 17 c.if-channel-eq17.false,
-      eq-eqb _ 19 c.if-channel-eq19.true,
-    )
-    c.data_place.ensures
+returns-in-19 c = simp c.in-19.is c.data_place.ensures
 
-pub returns-then-channel-gt16 : goal.returns-then-channel-gt16
+pub returns-in-1-to-16 : goal.returns-in-1-to-16
 unfolding place
-returns-then-channel-gt16 c = simp (
-  ne_eqb _ 0 c.if-channel-eq0.false,
-  ne_eqb _ 17 c.if-channel-eq17.false,
-  ne_eqb _ 19 c.if-channel-eq19.false,
-  lt-leb _ 16 c.if-channel-gt16.true,
-  le-leb 1
-      (c.args.swno / 16) (omega arith),
-)
+returns-in-1-to-16 c =
+    let k = c.args.swno / 16 in
+    let low : 1 ≤ k = omega arith in
+    let high : k ≤ 16 = omega arith in
+    let a : k ≢ 0 = omega arith in
+    let b : k ≢ 17 = omega arith in
+    let d : k ≢ 19 = omega arith in
+    simp (ne_eqb k 0 a, ne_eqb k 17 b, ne_eqb k 19 d, le-leb 1 k low, le-leb k 16 high) c.digital_place.ensures
 
-pub returns : goal.returns
+pub returns-in_default : goal.returns-in_default
 unfolding place
-returns c =
-    simp (
-      ne_eqb _ 0 c.if-channel-eq0.false,
-      ne_eqb _ 17 c.if-channel-eq17.false,
-      ne_eqb _ 19 c.if-channel-eq19.false,
-      le-leb _ 16 c.if-channel-gt16.false,
-      le-leb 1
-          (c.args.swno / 16) (omega arith),
-    )
-    c.digital_place.ensures
+returns-in_default c =
+    let k = c.args.swno / 16 in
+    let low : 1 ≤ k = omega arith in
+    let high : 16 < k = omega arith in
+    let a : k ≢ 0 = omega arith in
+    let b : k ≢ 17 = omega arith in
+    let d : k ≢ 19 = omega arith in
+    simp (ne_eqb k 0 a, ne_eqb k 17 b, ne_eqb k 19 d, le-leb 1 k low, lt-leb k 16 high)

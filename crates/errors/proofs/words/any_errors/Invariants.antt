@@ -1,11 +1,8 @@
-use mathlib.Core.Path.{◌≡◌}
-use Prim.Native.Nat.{◌-◌, ◌≤◌}
-use lib.ListN.{take}
+use Rattle.std.proofs.Common.{◌≡◌, take}
 use Rattle.model.specs.Errors.{any, has_his, has_act}
 use Rattle.errors.proofs.words.any_errors.Given as goal
 
-abbrev pub invariant-loop-k : goal.invariant-loop-k
-invariant-loop-k l = (l.k ≤ 16) × (l.his ≡ any has_his (take l.k l.channels)) × (l.act ≡ any has_act (take l.k l.channels))
-
-abbrev pub decreases-loop-k : goal.decreases-loop-k
-decreases-loop-k l = 16 - l.k
+abbrev pub invariant-loop-ch : goal.invariant-loop-ch
+invariant-loop-ch l =
+    let done = take l.ch-index l.ch-items in
+    (l.his ≡ any has_his done) × (l.act ≡ any has_act done)
