@@ -131,7 +131,15 @@ pub fn read(m: Module, swno: u16, buf: &mut [u8]) -> Answered
 {
     let at = registers::wire_slot(swno);
     let seen = words::of_channels(m.channels);
-    let done = read_changes(m.shared, m.service, m.channels[at], m.data_channel, seen, swno, buf);
+    let done = read_changes(
+        m.shared,
+        m.service,
+        m.channels[at],
+        m.data_channel,
+        seen,
+        swno,
+        buf,
+    );
     let mut next = m;
     next.service = done.service;
     next.channels[at] = done.channel;
@@ -161,7 +169,9 @@ pub fn begin_write(s: Shared, v: Service, ch: Channel, swno: u16, bytes: &[u8]) 
     }
 }
 
-// The same for a caller that lends these parts.
+// The same for a caller that lends these parts. A call of its own in the compiled code, since its copies
+// would else deepen the stack of the exported write (PD3120_CALL_STACK).
+#[inline(never)]
 pub fn begin_write_in_place(
     s: &mut Shared,
     v: &mut Service,

@@ -60,7 +60,7 @@ pub extern "C" fn pd3120_write(m: &mut Module, swno: u16, bytes: &[u8]) -> u32
     let at = registers::wire_slot(swno);
     let before = m.shared;
     let ch = &mut m.channels[at];
-    let rest = writing::begin(&mut m.shared, &mut m.service, ch, swno, bytes);
+    let rest = pd3120::begin_write_in_place(&mut m.shared, &mut m.service, ch, swno, bytes);
     if rest.of_data {
         writing::data(before, &mut m.data_channel, swno, bytes);
     }

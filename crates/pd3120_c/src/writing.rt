@@ -3,20 +3,11 @@
 ghost use Rattle.std.specs.Prelude.{◌≡◌};
 ghost use Rattle.model.specs.Errors.{data_error_of, general_error_of};
 ghost use Rattle.registers.specs.Places.{placed};
-ghost use Rattle.writes.specs.Begun.{begun_with, data_by, each_written};
-ghost use Rattle.pd3120.specs.Parts.{WriteBy};
+ghost use Rattle.writes.specs.Begun.{data_by, each_written};
 
-use model::{Channel, DataChannel, Module, Service, Shared};
+use model::{Channel, DataChannel, Module, Shared};
 use pd3120::WireBits;
 use registers::Place;
-use writes::Rest;
-
-#[inline(never)]
-pub fn begin(s: &mut Shared, v: &mut Service, ch: &mut Channel, swno: u16, bytes: &[u8]) -> Rest
-    ensures { WriteBy s.old v.old ch.old swno bytes.now (begun_with s.new v.new ch.new result) }
-{
-    pd3120::begin_write_in_place(s, v, ch, swno, bytes)
-}
 
 // s is the shared record before the write.
 #[inline(never)]
