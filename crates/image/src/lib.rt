@@ -5,20 +5,13 @@ ghost use Rattle.std.specs.Prelude.{◌≡◌};
 ghost use Rattle.model.specs.Questions.{power_up_reply, store_reply};
 ghost use Rattle.model.specs.Calls.{power_up, stored};
 
-use model::{Module, Refusal, Reply};
+use model::{Module, Outcome, Refusal, Reply};
 use questions::ask;
 
 mod checks; // the questions of power-up
 mod decode; // what an image's bytes hold
 mod encode; // an image's bytes, written into a buffer
 mod sizes; // how long its sections are, and where they stand
-
-// What power-up answers, and the box that it leaves.
-#[derive(Clone, Copy)]
-pub struct Started {
-    pub after: Module,
-    pub reply: Reply,
-}
 
 pub fn power_up_reply(img: &[u8]) -> Reply
     ensures { result ≡ power_up_reply img.now }
@@ -46,13 +39,13 @@ pub fn power_up_in_place(m: &mut Module, img: &[u8]) -> Reply
 }
 
 // The same for a box that is not there yet.
-pub fn power_up(img: &[u8]) -> Started
+pub fn power_up(img: &[u8]) -> Outcome<Module>
     ensures after { result.after ≡ power_up img.now }
     ensures reply { result.reply ≡ power_up_reply img.now }
 {
     let mut after = decode::blank();
     let reply = power_up_in_place(&mut after, img);
-    Started {
+    Outcome {
         after: after,
         reply: reply,
     }

@@ -4,3 +4,4 @@ pub mod Storing
 pub mod Bytes
 pub mod Minute
 pub mod Powering
+pub mod Lookups

@@ -1,8 +1,10 @@
 -- What the public functions answer, in the paper's numbers (`answer_of` of the model's Calls), beside the model's `step`, `power_up` and `stored`. Definitions only.
-use Rattle.std.specs.Prelude.{◌≡◌, Bool, false, ◌&&◌, List, [], ℕ, length, take, Ok}
+use Rattle.std.specs.Prelude.{◌≡◌, Bool, false, ◌&&◌, List, [], ℕ, length, take, Result, Ok, Err}
 use Rattle.model.specs.declared.Call.{Call}
 use Rattle.model.specs.declared.Call.TheVariants.{Read, Write, Sample, LookUp, Minute, Windows, Tick}
 use Rattle.model.specs.declared.Module.{Module}
+use Rattle.model.specs.declared.Outcome.{Outcome}
+use Rattle.model.specs.declared.Refusal.{Refusal}
 use Rattle.model.specs.Questions.{Reply}
 use Rattle.model.specs.declared.Service.{Service}
 use Rattle.model.specs.declared.Shared.{Shared}
@@ -15,9 +17,6 @@ use Rattle.model.specs.Images.{Reached, PowersUpTo}
 use Rattle.model.specs.TwoLists.{LearnsNothing}
 use Rattle.model.specs.Runs.{RunsAddUp}
 use Rattle.pd3120.specs.declared.Answered.{Answered}
-use Rattle.pd3120.specs.declared.Sampled.{Sampled}
-use Rattle.pd3120.specs.declared.Started.{Started}
-use Rattle.pd3120.specs.declared.lookups.LookedUp.{LookedUp}
 
 -- ---- the step of `step` that an answer says: its numbers, the lent buffer afterwards, and the box
 -- of a wire call, and of any call by `call`
@@ -25,16 +24,17 @@ abbrev pub step_of : Answered → List ℕ → Stepped
 step_of r buf = record { answer = answer_of r.reply buf r.data_error r.general_error r.real_bits; box = r.after }
 
 -- of a sample, and of a call of opening hours
-abbrev pub sample_of : Sampled → Stepped
+abbrev pub sample_of : Outcome Module → Stepped
 sample_of r = record { answer = answer_of r.reply [] false false 0; box = r.after }
 
 -- a sample's as an answer of any call: no bits, and no Real
-abbrev pub plain_of : Sampled → Answered
+abbrev pub plain_of : Outcome Module → Answered
 plain_of s = record { after = s.after; reply = s.reply; data_error = false; general_error = false; real_bits = 0 }
 
--- of a lookup in the box m
-abbrev pub look_up_of : LookedUp → Module → Stepped
-look_up_of r m = record { answer = answer_of r.reply [] false false r.bits; box = m }
+-- of a lookup in the box m, which gives the bits of its Real or is refused
+abbrev pub look_up_of : Result ℕ Refusal → Module → Stepped
+look_up_of (Ok bits) m = record { answer = answer_of (Ok 0) [] false false bits; box = m }
+look_up_of (Err why) m = record { answer = answer_of (Err why) [] false false 0; box = m }
 
 -- of a tick, which always answers 0
 abbrev pub tick_of : Module → Stepped
@@ -85,7 +85,7 @@ lent_after Tick m lent = lent
 
 -- ---- power-up: its answer and the box; of any image, that short runs add up in that very box; and of an accepted one, demand 3 for it, that it is stored again
 -- as the same bytes where it has the length that is stored, and that what is stored of it powers up to the same box, whatever its length
-pub record PoweredUp (img : List ℕ) (r : Started) : Type 0 where
+pub record PoweredUp (img : List ℕ) (r : Outcome Module) : Type 0 where
   pub answer_is : answer_of r.reply [] false false 0 ≡ power_up_answer img
   pub box_is : r.after ≡ power_up img
   pub runs_add_up : RunsAddUp r.after

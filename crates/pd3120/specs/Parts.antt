@@ -1,8 +1,10 @@
 -- What the functions answer that are given parts of a box and give parts back, for every box that has these parts, beside the model's `step`. Definitions only.
-use Rattle.std.specs.Prelude.{◌≡◌, Bool, false, Float, List, [], ℕ, ◌/◌, ◌≤◌, length, get_or, set}
+use Rattle.std.specs.Prelude.{◌≡◌, Bool, false, Float, List, [], ℕ, ◌/◌, ◌≤◌, length, get_or, set, Result}
 use Rattle.model.specs.declared.Channel.{Channel}
 use Rattle.model.specs.declared.DataChannel.{DataChannel}
 use Rattle.model.specs.declared.Module.{Module}
+use Rattle.model.specs.declared.Outcome.{Outcome}
+use Rattle.model.specs.declared.Refusal.{Refusal}
 use Rattle.model.specs.declared.Service.{Service}
 use Rattle.model.specs.declared.Shared.{Shared}
 use Rattle.model.specs.State.{data_channel_of, nothing, with_shared, with_channels}
@@ -14,9 +16,6 @@ use Rattle.reads.specs.Reading.{put_back}
 use Rattle.writes.specs.declared.Begun.{Begun}
 use Rattle.writes.specs.Begun.{data_by, whole_of}
 use Rattle.pd3120.specs.declared.Changed.{Changed}
-use Rattle.pd3120.specs.declared.lookups.LookedUp.{LookedUp}
-use Rattle.pd3120.specs.declared.opening.MinuteSet.{MinuteSet}
-use Rattle.pd3120.specs.declared.samples.Taken.{Taken}
 use Rattle.pd3120.specs.Answers.{look_up_of}
 
 -- m is a box of sixteen channels with the records s and v, and with the channel ch at place i, counted from 0
@@ -42,32 +41,32 @@ ReadBy s v ch d w n lent r buf =
 abbrev pub write_of : Module → ℕ → List ℕ → Begun → Stepped
 write_of m n bs r =
     let after = whole_of r (slot_of (n / 16)) (data_by m.shared n bs (data_channel_of m)) m in
-    record { answer = wire_answer r.reply [] after; box = after }
+    record { answer = wire_answer r.rest.reply [] after; box = after }
 
 -- and where it does not come to the data channel, that stays
 abbrev pub WriteBy : Shared → Service → Channel → ℕ → List ℕ → Begun → Type 0
 WriteBy s v ch n bs r =
-    (r.count ≤ 16)
-    × ((d : DataChannel) → r.of_data ≡ false → data_by s n bs d ≡ d)
+    (r.rest.count ≤ 16)
+    × ((d : DataChannel) → r.rest.of_data ≡ false → data_by s n bs d ≡ d)
     × ((m : Module) → Has s v ch (slot_of (n / 16)) m → write_of m n bs r ≡ step m (write n bs))
 
 -- a lookup in the data channel d of any box
-abbrev pub LookedUpBy : DataChannel → ℕ → Float → LookedUp → Type 0
+abbrev pub LookedUpBy : DataChannel → ℕ → Float → Result ℕ Refusal → Type 0
 LookedUpBy d k x r = (m : Module) → data_channel_of m ≡ d → look_up_of r m ≡ step m (look_up k x)
 
 -- a sample for channel k: its channel put back. It looks at no service record
-abbrev pub SampleBy : ℕ → Bool → Float → Shared → Channel → Taken → Type 0
+abbrev pub SampleBy : ℕ → Bool → Float → Shared → Channel → Outcome Channel → Type 0
 SampleBy k b x s ch r =
     (m : Module) → m.shared ≡ s → get_or m.channels (slot_of k) nothing ≡ ch →
     record { answer = answer_of r.reply [] false false 0; box = with_channels (set m.channels (slot_of k) r.after) m } ≡ step m (sample k b x)
 
 -- the minute: the shared record put back
-abbrev pub MinuteBy : ℕ → Shared → MinuteSet → Type 0
+abbrev pub MinuteBy : ℕ → Shared → Outcome Shared → Type 0
 MinuteBy n s r =
     (m : Module) → m.shared ≡ s → record { answer = answer_of r.reply [] false false 0; box = with_shared r.after m } ≡ step m (minute n)
 
 -- windows for channel k: its channel put back. They look at no other part
-abbrev pub WindowsBy : ℕ → List ℕ → Channel → Taken → Type 0
+abbrev pub WindowsBy : ℕ → List ℕ → Channel → Outcome Channel → Type 0
 WindowsBy k ws ch r =
     (m : Module) → get_or m.channels (slot_of k) nothing ≡ ch →
     record { answer = answer_of r.reply [] false false 0; box = with_channels (set m.channels (slot_of k) r.after) m } ≡ step m (windows k ws)

@@ -19,16 +19,8 @@ pub mod samples;
 
 use errors::words;
 use errors::words::Words;
-use lookups::LookedUp;
-use model::{Call, Channel, DataChannel, Module, Reply, Service, Shared};
+use model::{Call, Channel, DataChannel, Module, Outcome, Refusal, Reply, Service, Shared};
 use writes::{Begun, Rest};
-
-// What power-up answers, and the box.
-#[derive(Clone, Copy)]
-pub struct Started {
-    pub after: Module,
-    pub reply: Reply,
-}
 
 // What a call answers, and the box that it leaves. real_bits are a lookup's, and 0 of any other call.
 #[derive(Clone, Copy)]
@@ -58,24 +50,11 @@ pub struct WireBits {
     pub general_error: bool,
 }
 
-// What a sample or a call of opening hours answers, and the box that it leaves.
-#[derive(Clone, Copy)]
-pub struct Sampled {
-    pub after: Module,
-    pub reply: Reply,
-}
-
 // A refused image gives the box of all-zero settings.
-pub fn power_up(img: &[u8]) -> Started
+pub fn power_up(img: &[u8]) -> Outcome<Module>
     ensures { PoweredUp img.now result }
 {
-    let started = image::power_up(img);
-    let after = started.after;
-    let reply = started.reply;
-    Started {
-        after: after,
-        reply: reply,
-    }
+    image::power_up(img)
 }
 
 // The kept values, as the first 886 bytes of the buffer.
@@ -105,9 +84,8 @@ fn clear(v: Service) -> Service
 fn preset_watchdog(s: Shared, v: Service) -> Service
     ensures { SharedBy watchdog_preset s v result }
 {
-    let preset = s.wd_preset;
     let mut next = v;
-    next.wd_timer = preset;
+    next.wd_timer = s.wd_preset;
     next
 }
 
@@ -115,12 +93,10 @@ fn preset_watchdog(s: Shared, v: Service) -> Service
 pub fn error_bits(m: Module) -> WireBits
     ensures { result ≡ record { data_error = data_error_of m; general_error = general_error_of m } }
 {
-    let service = m.service;
-    let channels = m.channels;
-    let any = words::any_errors(channels);
+    let any = words::any_errors(m.channels);
     WireBits {
-        data_error: errors::data_error(service, any.act),
-        general_error: errors::general_error(service, any.his),
+        data_error: errors::data_error(m.service, any.act),
+        general_error: errors::general_error(m.service, any.his),
     }
 }
 
@@ -141,13 +117,10 @@ pub fn read_changes(
 {
     let ready = clear(v);
     let done = reads::read(s, ready, ch, d, w, swno, buf);
-    let left = done.service;
-    let channel = done.channel;
-    let reply = done.reply;
     Changed {
-        service: preset_watchdog(s, left),
-        channel: channel,
-        reply: reply,
+        service: preset_watchdog(s, done.service),
+        channel: done.channel,
+        reply: done.reply,
         data_error: errors::data_error(ready, w.act != 0),
         general_error: errors::general_error(ready, w.his != 0),
     }
@@ -157,29 +130,22 @@ pub fn read(m: Module, swno: u16, buf: &mut [u8]) -> Answered
     ensures { step_of result buf.new ≡ step m (read swno buf.old) }
 {
     let at = registers::wire_slot(swno);
-    let shared = m.shared;
-    let service = m.service;
-    let channels = m.channels;
-    let data = m.data_channel;
-    let ch = channels[at];
+    let seen = words::of_channels(m.channels);
     let done = read_changes(
-        shared,
-        service,
-        ch,
-        data,
-        words::of_channels(channels),
+        m.shared,
+        m.service,
+        m.channels[at],
+        m.data_channel,
+        seen,
         swno,
         buf,
     );
-    let left = done.service;
-    let channel = done.channel;
-    let reply = done.reply;
     let mut next = m;
-    next.service = left;
-    next.channels[at] = channel;
+    next.service = done.service;
+    next.channels[at] = done.channel;
     Answered {
         after: next,
-        reply: reply,
+        reply: done.reply,
         data_error: done.data_error,
         general_error: done.general_error,
         real_bits: 0,
@@ -191,16 +157,21 @@ pub fn read(m: Module, swno: u16, buf: &mut [u8]) -> Answered
 pub fn begin_write(s: Shared, v: Service, ch: Channel, swno: u16, bytes: &[u8]) -> Begun
     ensures { WriteBy s v ch swno bytes.now result }
 {
-    let ready = clear(v);
-    let begun = writes::begin(s, ready, ch, swno, bytes);
-    let shared = begun.shared;
-    let left = begun.service;
-    let mut next = begun;
-    next.service = preset_watchdog(shared, left);
-    next
+    let mut shared = s;
+    let mut service = v;
+    let mut channel = ch;
+    let rest = begin_write_in_place(&mut shared, &mut service, &mut channel, swno, bytes);
+    Begun {
+        shared: shared,
+        service: service,
+        channel: channel,
+        rest: rest,
+    }
 }
 
-// The same for a caller that lends these parts.
+// The same for a caller that lends these parts. A call of its own in the compiled code, since its copies
+// would else deepen the stack of the exported write (PD3120_CALL_STACK).
+#[inline(never)]
 pub fn begin_write_in_place(
     s: &mut Shared,
     v: &mut Service,
@@ -220,20 +191,15 @@ pub fn begin_write_in_place(
 pub fn write(m: Module, swno: u16, bytes: &[u8]) -> Answered
     ensures { step_of result [] ≡ step m (write swno bytes.now) }
 {
-    let ready = clear(m.service);
     let mut cleared = m;
-    cleared.service = ready;
+    cleared.service = clear(m.service);
     let done = writes::write(cleared, swno, bytes);
-    let reply = done.reply;
-    let after = done.after;
-    let shared = after.shared;
-    let left = after.service;
-    let bits = error_bits(after);
-    let mut next = after;
-    next.service = preset_watchdog(shared, left);
+    let mut next = done.after;
+    let bits = error_bits(next);
+    next.service = preset_watchdog(next.shared, next.service);
     Answered {
         after: next,
-        reply: reply,
+        reply: done.reply,
         data_error: bits.data_error,
         general_error: bits.general_error,
         real_bits: 0,
@@ -241,62 +207,51 @@ pub fn write(m: Module, swno: u16, bytes: &[u8]) -> Answered
 }
 
 // The level first, then the current.
-pub fn sample(m: Module, channel: u8, level: bool, amperes: f32) -> Sampled
+pub fn sample(m: Module, channel: u8, level: bool, amperes: f32) -> Outcome<Module>
     ensures { sample_of result ≡ step m (sample channel level amperes) }
 {
     let at = samples::slot(channel);
-    let ch = m.channels[at];
-    let shared = m.shared;
-    let taken = samples::take(shared, ch, channel, level, amperes);
-    let left = taken.after;
-    let reply = taken.reply;
+    let taken = samples::take(m.shared, m.channels[at], channel, level, amperes);
     let mut next = m;
-    next.channels[at] = left;
-    Sampled {
+    next.channels[at] = taken.after;
+    Outcome {
         after: next,
-        reply: reply,
+        reply: taken.reply,
     }
 }
 
-// The box stays as it is.
-pub fn look_up(m: Module, table: u8, x: f32) -> LookedUp
+// The bits of its Real, or why it is refused. The box stays as it is.
+pub fn look_up(m: Module, table: u8, x: f32) -> Result<u32, Refusal>
     ensures { look_up_of result m ≡ step m (look_up table x) }
 {
-    let data = m.data_channel;
-    lookups::look_up(data, table, x)
+    lookups::look_up(m.data_channel, table, x)
 }
 
 // The minute of the week, 0 to 10079.
-pub fn set_minute(m: Module, of_week: u16) -> Sampled
+pub fn set_minute(m: Module, of_week: u16) -> Outcome<Module>
     ensures { sample_of result ≡ step m (minute of_week) }
 {
-    let shared = m.shared;
-    let set = opening::set_minute(shared, of_week);
-    let left = set.after;
-    let reply = set.reply;
+    let set = opening::set_minute(m.shared, of_week);
     let mut next = m;
-    next.shared = left;
-    Sampled {
+    next.shared = set.after;
+    Outcome {
         after: next,
-        reply: reply,
+        reply: set.reply,
     }
 }
 
 // A channel's windows, given whole; an empty slice takes them away. Each is one number, its start
 // times 65536 plus its end.
-pub fn set_windows(m: Module, channel: u8, given: &[u32]) -> Sampled
+pub fn set_windows(m: Module, channel: u8, given: &[u32]) -> Outcome<Module>
     ensures { sample_of result ≡ step m (windows channel given.now) }
 {
     let at = samples::slot(channel);
-    let ch = m.channels[at];
-    let taken = opening::set_windows(ch, channel, given);
-    let left = taken.after;
-    let reply = taken.reply;
+    let taken = opening::set_windows(m.channels[at], channel, given);
     let mut next = m;
-    next.channels[at] = left;
-    Sampled {
+    next.channels[at] = taken.after;
+    Outcome {
         after: next,
-        reply: reply,
+        reply: taken.reply,
     }
 }
 
@@ -311,25 +266,16 @@ pub fn output(m: Module, channel: u8) -> bool
     ensures { result ≡ output_at m channel }
 {
     let k = channel as usize;
-    if k < 1 {
-        return false;
-    }
-    if 16 < k {
-        return false;
-    }
-    let ch = m.channels[k - 1];
-    settings::output(ch)
+    (1..=16).contains(&k) && settings::output(m.channels[k - 1])
 }
 
 // Samples, calls of opening hours and ticks answer no bits.
-fn plain(s: Sampled) -> Answered
+fn plain(s: Outcome<Module>) -> Answered
     ensures { result ≡ plain_of s }
 {
-    let after = s.after;
-    let reply = s.reply;
     Answered {
-        after: after,
-        reply: reply,
+        after: s.after,
+        reply: s.reply,
         data_error: false,
         general_error: false,
         real_bits: 0,
@@ -341,13 +287,12 @@ fn looked_up(m: Module, table: u8, x: f32) -> Answered
     ensures { step_of result [] ≡ step m (look_up table x) }
 {
     let found = look_up(m, table, x);
-    let reply = found.reply;
     Answered {
         after: m,
-        reply: reply,
+        reply: found.map(|_| 0),
         data_error: false,
         general_error: false,
-        real_bits: found.bits,
+        real_bits: found.unwrap_or(0),
     }
 }
 
@@ -364,7 +309,7 @@ pub fn call(m: Module, c: Call, written: &[u8], windows: &[u32], lent: &mut [u8]
         Call::LookUp(table, x) => looked_up(m, table, x),
         Call::Minute(minute) => plain(set_minute(m, minute)),
         Call::Windows(channel) => plain(set_windows(m, channel, windows)),
-        Call::Tick => plain(Sampled {
+        Call::Tick => plain(Outcome {
             after: tick(m),
             reply: Ok(0),
         }),

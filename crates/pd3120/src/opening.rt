@@ -5,15 +5,7 @@ ghost use Rattle.model.specs.State.{with_clock, with_timetable};
 ghost use Rattle.model.specs.Hours.{clock_at, timetable_of};
 ghost use Rattle.pd3120.specs.Parts.{MinuteBy, WindowsBy};
 
-use crate::samples::Taken;
-use model::{Channel, Reply, Shared};
-
-// What setting the minute answers, and the shared record that it leaves.
-#[derive(Clone, Copy)]
-pub struct MinuteSet {
-    pub after: Shared,
-    pub reply: Reply,
-}
+use model::{Channel, Outcome, Shared};
 
 fn with_minute(s: Shared, minute: u16) -> Shared
     ensures { result ≡ with_clock (clock_at minute) s }
@@ -24,19 +16,17 @@ fn with_minute(s: Shared, minute: u16) -> Shared
 }
 
 // s is the box's shared record.
-pub fn set_minute(s: Shared, minute: u16) -> MinuteSet
+pub fn set_minute(s: Shared, minute: u16) -> Outcome<Shared>
     ensures { MinuteBy minute s result }
 {
     let reply = questions::opening::minute_reply(minute);
-    match reply {
-        Ok(_) => MinuteSet {
-            after: with_minute(s, minute),
-            reply: reply,
-        },
-        Err(_) => MinuteSet {
-            after: s,
-            reply: reply,
-        },
+    let after = match reply {
+        Ok(_) => with_minute(s, minute),
+        Err(_) => s,
+    };
+    Outcome {
+        after: after,
+        reply: reply,
     }
 }
 
@@ -50,18 +40,16 @@ fn with_windows(ch: Channel, windows: &[u32]) -> Channel
 
 // ch is the channel at the place that `samples::slot` gives. Each window is its start times 65536 plus
 // its end.
-pub fn set_windows(ch: Channel, channel: u8, windows: &[u32]) -> Taken
+pub fn set_windows(ch: Channel, channel: u8, windows: &[u32]) -> Outcome<Channel>
     ensures { WindowsBy channel windows.now ch result }
 {
     let reply = questions::opening::windows_reply(channel, windows);
-    match reply {
-        Ok(_) => Taken {
-            after: with_windows(ch, windows),
-            reply: reply,
-        },
-        Err(_) => Taken {
-            after: ch,
-            reply: reply,
-        },
+    let after = match reply {
+        Ok(_) => with_windows(ch, windows),
+        Err(_) => ch,
+    };
+    Outcome {
+        after: after,
+        reply: reply,
     }
 }

@@ -4,7 +4,9 @@ ghost use Rattle.model.specs.Questions.{refusal_number, number_of, length_of};
 
 use model::{Refusal, Reply};
 
-fn refusal_number(r: Refusal) -> u8
+// Not `u8::from`: model, where From for a Refusal would have to stand, holds no function (docs/DECISIONS.md).
+// Not the variants' discriminants: the edit two_refusals_of_one_number gives two variants one number.
+pub fn refusal_number(r: Refusal) -> u8
     ensures { result ≡ refusal_number r }
 {
     match r {
@@ -42,8 +44,5 @@ pub fn number(r: Reply) -> u8
 pub fn length(r: Reply) -> usize
     ensures { result ≡ length_of r }
 {
-    match r {
-        Ok(n) => n,
-        Err(_) => 0,
-    }
+    r.unwrap_or(0)
 }

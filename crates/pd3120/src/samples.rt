@@ -4,14 +4,7 @@ ghost use Rattle.std.specs.Prelude.{◌≡◌, ◌<◌};
 ghost use Rattle.registers.specs.Places.{slot_of};
 ghost use Rattle.pd3120.specs.Parts.{SampleBy};
 
-use model::{Channel, Reply, Shared};
-
-// What a sample answers, and the channel that it leaves.
-#[derive(Clone, Copy)]
-pub struct Taken {
-    pub after: Channel,
-    pub reply: Reply,
-}
+use model::{Channel, Outcome, Shared};
 
 // The channel's place by the number that a sample has, a byte. For a number that is no channel's it
 // is that of channel 1, which the refused sample leaves as it is.
@@ -22,18 +15,16 @@ pub fn slot(channel: u8) -> usize
 }
 
 // s is the box's shared record, ch the channel at the place that `slot` gives.
-pub fn take(s: Shared, ch: Channel, channel: u8, level: bool, amperes: f32) -> Taken
+pub fn take(s: Shared, ch: Channel, channel: u8, level: bool, amperes: f32) -> Outcome<Channel>
     ensures { SampleBy channel level amperes s ch result }
 {
     let reply = questions::sample_reply(channel, amperes);
-    match reply {
-        Ok(_) => Taken {
-            after: channel::take_sample(s, level, amperes, ch),
-            reply: reply,
-        },
-        Err(_) => Taken {
-            after: ch,
-            reply: reply,
-        },
+    let after = match reply {
+        Ok(_) => channel::take_sample(s, level, amperes, ch),
+        Err(_) => ch,
+    };
+    Outcome {
+        after: after,
+        reply: reply,
     }
 }

@@ -3,9 +3,9 @@
 ghost use Rattle.std.specs.Prelude.{◌≡◌, cond, ◌≤◌};
 ghost use Rattle.model.specs.Image.{image_size};
 ghost use Rattle.model.specs.Questions.{number_of, length_of};
-ghost use Rattle.pd3120_c.specs.Codes.{packed, packed_level, reply_code};
+ghost use Rattle.pd3120_c.specs.Codes.{packed, reply_code, level_code};
 
-use model::Reply;
+use model::{Refusal, Reply};
 use pd3120::replies;
 
 pub(crate) fn weigh(set: bool, weight: u32) -> u32
@@ -34,9 +34,11 @@ pub(crate) fn pack(reply: Reply, data_error: bool, general_error: bool) -> u32
 }
 
 // A lookup's: bits 0 to 31 those of its Real, bits 32 to 39 the number.
-pub(crate) fn look_up_code(reply: Reply, bits: u32) -> u64
-    ensures { result ≡ packed_level (number_of reply) bits }
+pub(crate) fn look_up_code(found: Result<u32, Refusal>) -> u64
+    ensures { result ≡ level_code found }
 {
-    let number = replies::number(reply);
-    (bits as u64) + (number as u64) * 4294967296
+    match found {
+        Ok(bits) => bits as u64,
+        Err(why) => (replies::refusal_number(why) as u64) * 4294967296,
+    }
 }

@@ -8,55 +8,19 @@ ghost use Rattle.model.specs.Calls.{read, write, sample, look_up, minute, window
 ghost use Rattle.pd3120.specs.Answers.{output_at};
 ghost use Rattle.pd3120_c.specs.Codes.{Left, LeftLent, Ticked, PoweredUp, Stored, look_up_code};
 
-mod calls;
 mod codes;
+mod writing;
 
-use model::{Channel, Module, Service, Shared};
-use pd3120::samples;
-use registers::Place;
-
-// The channel that a sample, or windows for it, leave, and the code of the answer.
-#[derive(Clone, Copy)]
-pub struct ChannelDone {
-    pub after: Channel,
-    pub code: u32,
-}
-
-// The shared record that a minute leaves, and the code of its answer.
-#[derive(Clone, Copy)]
-pub struct SharedDone {
-    pub after: Shared,
-    pub code: u32,
-}
-
-// The two parts of the module that a read may change, and the code of its answer.
-#[derive(Clone, Copy)]
-pub struct ReadDone {
-    pub service: Service,
-    pub channel: Channel,
-    pub code: u32,
-}
-
-// The parts of the module that a write changes first, how many channels it then comes to, the number
-// of its answer, whether it comes to the data channel, and what it does to each of these channels.
-#[derive(Clone, Copy)]
-pub struct WriteBegun {
-    pub shared: Shared,
-    pub service: Service,
-    pub channel: Channel,
-    pub count: usize,
-    pub number: u8,
-    pub of_data: bool,
-    pub place: Place,
-    pub word: u16,
-}
+use errors::words;
+use model::Module;
+use pd3120::{lookups, opening, samples};
 
 // A refused image gives the box of all-zero settings.
 #[unsafe(no_mangle)]
 pub extern "C" fn pd3120_power_up(m: &mut Module, image: &[u8]) -> u32
     ensures { PoweredUp image.now m.new result }
 {
-    calls::power_up(m, image)
+    codes::pack(pd3120::power_up_in_place(m, image), false, false)
 }
 
 // The kept values, as the first 886 bytes of the buffer.
@@ -64,7 +28,7 @@ pub extern "C" fn pd3120_power_up(m: &mut Module, image: &[u8]) -> u32
 pub extern "C" fn pd3120_store(m: &Module, buf: &mut [u8]) -> u32
     ensures { Stored m.now buf.old result buf.new }
 {
-    calls::store(*m, buf)
+    codes::pack(pd3120::store(*m, buf), false, false)
 }
 
 #[unsafe(no_mangle)]
@@ -72,8 +36,8 @@ pub extern "C" fn pd3120_read(m: &mut Module, swno: u16, buf: &mut [u8]) -> u32
     ensures { LeftLent (step m.old (read swno buf.old)) m.new result buf.new }
 {
     let at = registers::wire_slot(swno);
-    let seen = calls::words_of(*m);
-    let done = calls::read(
+    let seen = words::of_channels(m.channels);
+    let done = pd3120::read_changes(
         m.shared,
         m.service,
         m.channels[at],
@@ -84,7 +48,7 @@ pub extern "C" fn pd3120_read(m: &mut Module, swno: u16, buf: &mut [u8]) -> u32
     );
     m.service = done.service;
     m.channels[at] = done.channel;
-    done.code
+    codes::pack(done.reply, done.data_error, done.general_error)
 }
 
 // The data channel is written only where the register comes to it, so that other writes do not copy
@@ -96,16 +60,15 @@ pub extern "C" fn pd3120_write(m: &mut Module, swno: u16, bytes: &[u8]) -> u32
     let at = registers::wire_slot(swno);
     let before = m.shared;
     let ch = &mut m.channels[at];
-    let begun = calls::begin_write(&mut m.shared, &mut m.service, ch, swno, bytes);
-    if begun.of_data {
-        calls::write_data(before, &mut m.data_channel, swno, bytes);
+    let rest = pd3120::begin_write_in_place(&mut m.shared, &mut m.service, ch, swno, bytes);
+    if rest.of_data {
+        writing::data(before, &mut m.data_channel, swno, bytes);
     }
-    let mut k = 0;
-    while k < begun.count {
-        calls::write_each(begun.place, begun.word, k, &mut m.channels[k]);
-        k += 1;
+    for k in 0..rest.count {
+        writing::each(rest.place, rest.word, k, &mut m.channels[k]);
     }
-    calls::finish_write(m, begun.number)
+    let bits = writing::error_bits(m);
+    codes::pack(rest.reply, bits.data_error, bits.general_error)
 }
 
 // The level first, then the current.
@@ -114,9 +77,9 @@ pub extern "C" fn pd3120_sample(m: &mut Module, channel: u8, level: bool, ampere
     ensures { Left (step m.old (sample channel level amperes)) m.new result }
 {
     let at = samples::slot(channel);
-    let done = calls::sample(m.shared, m.channels[at], channel, level, amperes);
-    m.channels[at] = done.after;
-    done.code
+    let taken = samples::take(m.shared, m.channels[at], channel, level, amperes);
+    m.channels[at] = taken.after;
+    codes::pack(taken.reply, false, false)
 }
 
 // The minute of the week, 0 to 10079.
@@ -124,9 +87,9 @@ pub extern "C" fn pd3120_sample(m: &mut Module, channel: u8, level: bool, ampere
 pub extern "C" fn pd3120_set_minute(m: &mut Module, of_week: u16) -> u32
     ensures { Left (step m.old (minute of_week)) m.new result }
 {
-    let done = calls::set_minute(m.shared, of_week);
-    m.shared = done.after;
-    done.code
+    let set = opening::set_minute(m.shared, of_week);
+    m.shared = set.after;
+    codes::pack(set.reply, false, false)
 }
 
 // A channel's windows, given whole, each its start times 65536 plus its end.
@@ -135,9 +98,9 @@ pub extern "C" fn pd3120_set_windows(m: &mut Module, channel: u8, given: &[u32])
     ensures { Left (step m.old (windows channel given.now)) m.new result }
 {
     let at = samples::slot(channel);
-    let done = calls::set_windows(m.channels[at], channel, given);
-    m.channels[at] = done.after;
-    done.code
+    let taken = opening::set_windows(m.channels[at], channel, given);
+    m.channels[at] = taken.after;
+    codes::pack(taken.reply, false, false)
 }
 
 // The answer's number and the bits of its Real (specs/Codes.antt).
@@ -145,7 +108,7 @@ pub extern "C" fn pd3120_set_windows(m: &mut Module, channel: u8, given: &[u32])
 pub extern "C" fn pd3120_look_up(m: &Module, table: u8, x: f32) -> u64
     ensures { result ≡ look_up_code (step m.now (look_up table x)).answer }
 {
-    calls::look_up(m.data_channel, table, x)
+    codes::look_up_code(lookups::look_up(m.data_channel, table, x))
 }
 
 // From channel 16 to 1, since the terminal board latches 16 first. The save is a loop of its own, so
@@ -158,14 +121,10 @@ pub extern "C" fn pd3120_tick(m: &mut Module)
     m.shared = begun.shared;
     m.service = begun.service;
     m.data_channel = ticks::tick_data(begun, m.data_channel);
-    let mut k = 16;
-    while 0 < k {
-        k -= 1;
+    for k in (0..16).rev() {
         m.channels[k] = ticks::tick_one(begun, m.channels[k]);
     }
-    k = begun.count;
-    while 0 < k {
-        k -= 1;
+    for k in (0..begun.count).rev() {
         m.channels[k] = review::keep(m.channels[k]);
     }
 }

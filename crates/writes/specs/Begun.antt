@@ -106,18 +106,17 @@ first_each f n cs = each f 0 (take n cs) ++ drop n cs
 -- ---- the box m when both steps are done; i is the place of the SWNo's own channel, and d the data channel
 abbrev pub whole_of : Begun → ℕ → DataChannel → Module → Module
 whole_of b i d m =
-    module_of b.shared b.service (first_each (each_written (placed b.place) b.word) b.count (set m.channels i b.channel)) d
+    module_of b.shared b.service (first_each (each_written (placed b.rest.place) b.rest.word) b.rest.count (set m.channels i b.channel)) d
 
 -- the first step where its records and its channel were changed in their places
 abbrev pub begun_with : Shared → Service → Channel → Rest → Begun
-begun_with s v ch r =
-    record { reply = r.reply; shared = s; service = v; channel = ch; count = r.count; of_data = r.of_data; place = r.place; word = r.word }
+begun_with s v ch r = record { shared = s; service = v; channel = ch; rest = r }
 
 -- r is what a write of bs to SWNo n begins with: in every box of sixteen channels that has these parts, it ends as the write of the whole box does; and where
 -- it does not come to the data channel, that stays
 abbrev pub BegunBy : Shared → Service → Channel → ℕ → List ℕ → Begun → Type 0
 BegunBy s v ch n bs r =
-    (r.count ≤ 16)
-    × ((d : DataChannel) → r.of_data ≡ false → data_by s n bs d ≡ d)
+    (r.rest.count ≤ 16)
+    × ((d : DataChannel) → r.rest.of_data ≡ false → data_by s n bs d ≡ d)
     × ((m : Module) → m.shared ≡ s → m.service ≡ v → length m.channels ≡ 16 → get_or m.channels (slot_of (n / 16)) nothing ≡ ch
-    → record { reply = r.reply; after = whole_of r (slot_of (n / 16)) (data_by s n bs (data_channel_of m)) m } ≡ write_of m n bs)
+    → record { reply = r.rest.reply; after = whole_of r (slot_of (n / 16)) (data_by s n bs (data_channel_of m)) m } ≡ write_of m n bs)

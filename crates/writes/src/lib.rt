@@ -17,32 +17,12 @@ mod reset;
 mod service;
 mod values;
 
-use model::{Channel, DataChannel, Module, Reply, Service, Shared};
+use model::{Channel, DataChannel, Module, Outcome, Reply, Service, Shared};
 use registers::Place;
 
-// What a write answers, and the box that it leaves.
-#[derive(Clone, Copy)]
-pub struct Written {
-    pub reply: Reply,
-    pub after: Module,
-}
-
-// What a write has done before it comes to every channel: its answer, the records and the SWNo's
-// own channel. `each` is then to be asked for the first count channels, with the place and the word,
-// and `data_after` where of_data; elsewhere the data channel stays.
-#[derive(Clone, Copy)]
-pub struct Begun {
-    pub reply: Reply,
-    pub shared: Shared,
-    pub service: Service,
-    pub channel: Channel,
-    pub count: usize,
-    pub of_data: bool,
-    pub place: Place,
-    pub word: u16,
-}
-
-// The same without what was changed where it stands: the records and the SWNo's own channel.
+// What a write answers, and what is left to do of it once the records and the SWNo's own channel are
+// changed: `each` is to be asked for the first count channels, with the place and the word, and
+// `data_after` where of_data; elsewhere the data channel stays.
 #[derive(Clone, Copy)]
 pub struct Rest {
     pub reply: Reply,
@@ -50,6 +30,15 @@ pub struct Rest {
     pub of_data: bool,
     pub place: Place,
     pub word: u16,
+}
+
+// The records and the SWNo's own channel as a write first changes them, and the rest of it.
+#[derive(Clone, Copy)]
+pub struct Begun {
+    pub shared: Shared,
+    pub service: Service,
+    pub channel: Channel,
+    pub rest: Rest,
 }
 
 fn shared_after(p: Place, b: &[u8], s: Shared) -> Shared
@@ -149,16 +138,11 @@ pub fn begin(s: Shared, v: Service, ch: Channel, swno: u16, b: &[u8]) -> Begun
     let mut service = v;
     let mut channel = ch;
     let rest = begin_in_place(&mut shared, &mut service, &mut channel, swno, b);
-    let place = rest.place;
     Begun {
-        reply: rest.reply,
         shared: shared,
         service: service,
         channel: channel,
-        count: rest.count,
-        of_data: rest.of_data,
-        place: place,
-        word: rest.word,
+        rest: rest,
     }
 }
 
@@ -238,7 +222,7 @@ fn first_each(p: Place, word: u16, count: usize, channels: [Channel; 16]) -> [Ch
     next
 }
 
-pub fn write(m: Module, swno: u16, b: &[u8]) -> Written
+pub fn write(m: Module, swno: u16, b: &[u8]) -> Outcome<Module>
     ensures { result ≡ write_of m swno b.now }
 {
     let at = registers::wire_slot(swno);
@@ -248,8 +232,7 @@ pub fn write(m: Module, swno: u16, b: &[u8]) -> Written
     let mut channels = m.channels;
     let ch = channels[at];
     let begun = begin(shared, service, ch, swno, b);
-    let reply = begun.reply;
-    let place = begun.place;
+    let rest = begun.rest;
     let channel = begun.channel;
     let next_shared = begun.shared;
     let next_service = begun.service;
@@ -257,11 +240,11 @@ pub fn write(m: Module, swno: u16, b: &[u8]) -> Written
     let after = Module {
         shared: next_shared,
         service: next_service,
-        channels: first_each(place, begun.word, begun.count, channels),
+        channels: first_each(rest.place, rest.word, rest.count, channels),
         data_channel: data_after(shared, data, swno, b),
     };
-    Written {
-        reply: reply,
+    Outcome {
         after: after,
+        reply: rest.reply,
     }
 }

@@ -6,6 +6,7 @@ use Prim.Native.Nat.{ℕ}
 use lib.Dec.{T}
 use lib.Pow.{are_bytes}
 use Rattle.model.specs.declared.Module.{Module}
+use Rattle.model.specs.declared.Outcome.{Outcome}
 use Rattle.model.specs.Questions.{Reply}
 use Rattle.model.specs.Questions.{number_of, power_up_reply}
 use Rattle.model.specs.Calls.{answer_of, power_up, power_up_answer}
@@ -15,10 +16,9 @@ use Rattle.model.specs.Runs.{RunsAddUp}
 use Rattle.model.proofs.TwoLists.{sixteen, two-lists}
 use Rattle.model.proofs.Runs.{runs}
 use Rattle.model.proofs.Images.{images}
-use Rattle.pd3120.specs.declared.Started.{Started}
 use Rattle.pd3120.specs.Answers.{PoweredUp}
 
-pub powered-up : (img : List ℕ) (r : Started) → T (are_bytes img) → r.after ≡ power_up img → r.reply ≡ power_up_reply img → PoweredUp img r
+pub powered-up : (img : List ℕ) (r : Outcome Module) → T (are_bytes img) → r.after ≡ power_up img → r.reply ≡ power_up_reply img → PoweredUp img r
 unfolding power_up_answer
 powered-up img r bytes after reply =
     let number = ap number_of reply in

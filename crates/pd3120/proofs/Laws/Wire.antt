@@ -7,6 +7,7 @@ use lib.Dec.{eqb}
 use Rattle.model.specs.declared.Channel.{Channel}
 use Rattle.model.specs.declared.DataChannel.{DataChannel}
 use Rattle.model.specs.declared.Module.{Module}
+use Rattle.model.specs.declared.Outcome.{Outcome}
 use Rattle.model.specs.State.{data_channel_of}
 use Rattle.model.specs.Questions.{Reply}
 use Rattle.model.specs.declared.Service.{Service}
@@ -21,7 +22,6 @@ use Rattle.reads.specs.declared.Reading.{Reading}
 use Rattle.reads.specs.Reading.{box_of, put_back, reading_of, buffer_of, OfParts}
 use Rattle.reads.proofs.Back.{put-back}
 use Rattle.writes.specs.declared.Begun.{Begun}
-use Rattle.writes.specs.declared.Written.{Written}
 use Rattle.writes.specs.Accepted as Whole
 use Rattle.writes.specs.Begun.{data_by, whole_of, BegunBy}
 use Rattle.pd3120.specs.Answers.{step_of, RecordBy, SharedBy}
@@ -86,10 +86,10 @@ module _ (m : Module) (s : Shared) (v : Service) (ch : Channel) (n : ℕ) (bs : 
   abbrev after-data : DataChannel
   after-data = data_by m.shared n bs (data_channel_of m)
 
-  is-written : record { reply = d.reply; after = whole_of d (slot_of (n / 16)) after-data (cleared m) } ≡ Whole.write_of (cleared m) n bs
+  is-written : record { reply = d.rest.reply; after = whole_of d (slot_of (n / 16)) after-data (cleared m) } ≡ Whole.write_of (cleared m) n bs
   unfolding cleared
   is-written =
-      ap (λ (t : Shared). record { reply = d.reply; after = whole_of d (slot_of (n / 16)) (data_by t n bs (data_channel_of m)) (cleared m) }) has.shared_is
+      ap (λ (t : Shared). record { reply = d.rest.reply; after = whole_of d (slot_of (n / 16)) (data_by t n bs (data_channel_of m)) (cleared m) }) has.shared_is
       ∙ f.2 (cleared m) has.shared_is (sym (e m has.service_is)) has.sixteen has.channel_is
 
   preset-is : after ≡ (watchdog_preset (whole_of d (slot_of (n / 16)) after-data m)).service
@@ -98,28 +98,24 @@ module _ (m : Module) (s : Shared) (v : Service) (ch : Channel) (n : ℕ) (bs : 
   abbrev next : Begun
   next =
       record {
-        reply = d.reply;
         shared = d.shared;
         service = after;
         channel = d.channel;
-        count = d.count;
-        of_data = d.of_data;
-        place = d.place;
-        word = d.word;
+        rest = d.rest;
       }
 
   whole_is : whole_of next (slot_of (n / 16)) after-data m ≡ watchdog_preset (Whole.write_of (cleared m) n bs).after
   unfolding cleared watchdog_preset
-  whole_is = rw preset-is (ap (λ (x : Written). watchdog_preset x.after) is-written)
+  whole_is = rw preset-is (ap (λ (x : Outcome Module). watchdog_preset x.after) is-written)
 
-  reply-is : d.reply ≡ (Whole.write_of (cleared m) n bs).reply
-  reply-is = ap (λ (x : Written). x.reply) is-written
+  reply-is : d.rest.reply ≡ (Whole.write_of (cleared m) n bs).reply
+  reply-is = ap (λ (x : Outcome Module). x.reply) is-written
 
   pub write-by : write_of m n bs next ≡ step m (write n bs)
-  write-by = ap (answered d.reply) whole_is ∙ written_as m n bs d.reply reply-is
+  write-by = ap (answered d.rest.reply) whole_is ∙ written_as m n bs d.rest.reply reply-is
 
 -- a write of the whole box
-pub write-answer : (m : Module) (n : ℕ) (bs : List ℕ) (ready : Module) (d : Written) (after : Module) (act his : Bool)
+pub write-answer : (m : Module) (n : ℕ) (bs : List ℕ) (ready : Module) (d : Outcome Module) (after : Module) (act his : Bool)
     → ready ≡ cleared m → d ≡ Whole.write_of ready n bs → after ≡ watchdog_preset d.after → act ≡ data_error_of d.after → his ≡ general_error_of d.after
     → step_of (record { after = after; reply = d.reply; data_error = act; general_error = his; real_bits = 0 }) [] ≡ step m (write n bs)
 unfolding step Whole.write_of cleared

@@ -13,4 +13,4 @@ returns c =
     let at = c.wire_slot-at.ensures.0 in
     let own = ap (λ (i : ℕ). get_or m.channels i nothing) (sym at) in
     let has : Has m.shared m.service _ _ m = record { shared_is = refl; service_is = refl; sixteen = l; channel_is = own } in
-    rw at (c.read_changes-done.ensures.step m has refl c.of_channels.ensures)
+    rw at (c.read_changes-done.ensures.step m has refl c.of_channels-seen.ensures)

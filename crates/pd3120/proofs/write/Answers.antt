@@ -10,7 +10,7 @@ unfolding watchdog_preset
 returns c =
     let s = c.args in
     let m = s.m in
-    let k = c.clear-ready in
+    let k = c.clear-cleared in
     let w = c.write-done in
     let after = w.result.after in
     let bits = c.error_bits-bits.ensures in

@@ -26,12 +26,6 @@ use Rattle.model.specs.Image.{image_size, kept_from}
 use Rattle.model.specs.Restored.{no_service_bits, restored_shared, restored_data}
 use Rattle.model.specs.Calls.{Request, read, write, sample, look_up, minute, windows, tick, Answer, answer_of, Stepped, step, power_up_answer, store_answer}
 use Rattle.reads.proofs.Laws.Held.{service-fits, digital-fits, common-fits}
-use Rattle.pd3120.specs.declared.opening.MinuteSet.{MinuteSet}
-use Rattle.pd3120.specs.declared.samples.Taken.{Taken}
-use Rattle.registers.specs.Places.{slot_of}
-use Rattle.registers.proofs.Laws.{slot-fits}
-use Rattle.writes.specs.declared.Begun.{Begun}
-use Rattle.pd3120.specs.Parts.{Has, WriteBy, SampleBy, MinuteBy, WindowsBy}
 
 answered : (b : Bool) (r : Reply) (w : Refusal) (n : ℕ) → length_of r ≤ n → length_of (cond b r (Err w)) ≤ n
 answered true r w n h = h
@@ -78,44 +72,9 @@ read_length n lent r e =
 pub reply-length : (m : Module) (x : Request) (r : Reply) (buf : List ℕ) (d g : Bool) → answer_of r buf d g 0 ≡ (step m x).answer → length_of r ≤ image_size
 reply-length m x r buf d g e = subst (λ (n : ℕ). n ≤ image_size) (ap (λ (a : Answer). a.length) (sym e)) (step-length m x)
 
--- the contracts of samples, opening hours and writes speak of every module that has the parts: here is one
-some_module : Shared → Service → Channel → Module
-some_module s v ch = module_of s v (replicate 16 ch) (restored_data (kept_from []))
-
-abbrev any_service : Service
-any_service = service_of (timer (pos 0)) no_service_bits no_service_bits
-
-pub minute-length : (n : ℕ) (s : Shared) (t : MinuteSet) → MinuteBy n s t → length_of t.reply ≤ image_size
-unfolding some_module
-minute-length n s t h =
-    let m = some_module s any_service nothing in
-    reply-length m (minute n) t.reply [] false false (ap (λ (z : Stepped). z.answer) (h m refl))
-
-pub windows-length : (k : ℕ) (ws : List ℕ) (ch : Channel) (t : Taken) → WindowsBy k ws ch t → length_of t.reply ≤ image_size
-unfolding some_module
-windows-length k ws ch t h =
-    let m = some_module (restored_shared (config 0 0 0 0) (timer (pos 0))) any_service ch in
-    reply-length m (windows k ws) t.reply [] false false
-    (ap (λ (z : Stepped). z.answer) (h m (get_or-replicate 16 (slot_of k) ch nothing (slot-fits k))))
-
-pub sample-length : (k : ℕ) (b : Bool) (x : Float) (s : Shared) (ch : Channel) (t : Taken) → SampleBy k b x s ch t → length_of t.reply ≤ image_size
-unfolding some_module
-sample-length k b x s ch t h =
-    let m = some_module s any_service ch in
-    reply-length m (sample k b x) t.reply [] false false
-    (ap (λ (z : Stepped). z.answer) (h m refl (get_or-replicate 16 (slot_of k) ch nothing (slot-fits k))))
-
--- a write answers no length
-none : (n : ℕ) → n ≤ 0 → n ≡ 0
-none n l = omega (arith, l)
-
-pub write-length : (s : Shared) (v : Service) (ch : Channel) (n : ℕ) (bs : List ℕ) (b : Begun) → WriteBy s v ch n bs b → length_of b.reply ≡ 0
-unfolding some_module step write_reply
-write-length s v ch n bs b h =
-    let m = some_module s v ch in
-    let has : Has s v ch (slot_of (n / 16)) m =
-    record { shared_is = refl; service_is = refl; sixteen = length-replicate 16 ch; channel_is = get_or-replicate 16 (slot_of (n / 16)) ch nothing (slot-fits (n / 16)) } in
-    ap (λ (z : Stepped). z.answer.length) (h.2 m has) ∙ none _ (asked-length (write_questions (write_enable_of s) n (place n) bs) 0)
+pub plain-length : (m : Module) (x : Request) (r : Reply) (after : Module) → record { answer = answer_of r [] false false 0; box = after } ≡ step m x
+    → length_of r ≤ image_size
+plain-length m x r after e = reply-length m x r [] false false (ap (λ (z : Stepped). z.answer) e)
 
 pub power-up-length : (img : List ℕ) (r : Reply) → answer_of r [] false false 0 ≡ power_up_answer img → length_of r ≤ image_size
 unfolding power_up_answer power_up_reply

@@ -12,19 +12,22 @@ use Rattle.model.specs.declared.Service.{Service}
 use Rattle.model.specs.declared.Shared.{Shared}
 use Rattle.model.specs.State.{nothing, with_channels}
 use Rattle.model.specs.Errors.{data_error_of, general_error_of}
-use Rattle.model.specs.Calls.{write, step}
+use Rattle.model.specs.Questions.{length_of}
+use Rattle.model.specs.Image.{image_size}
+use Rattle.model.specs.Calls.{write, Stepped, step}
 use Rattle.model.specs.Tick.{save_due, saved}
 use Rattle.model.proofs.Laws.Filled.{filled, none, alike, in_place, below, below_none, from, from-none, from_all, up, down, all-below}
 use Rattle.model.proofs.Laws.Tests.{either}
-use Rattle.registers.specs.Places.{slot_of}
+use Rattle.registers.specs.Places.{placed, slot_of}
 use Rattle.ticks.specs.declared.Begun.{Begun}
 use Rattle.ticks.specs.Begun.{begun_of, ticked_by, data_ticked_by}
 use Rattle.ticks.proofs.Whole.{whole}
-use Rattle.writes.specs.Begun.{data_by}
+use Rattle.writes.specs.declared.Begun as Write
+use Rattle.writes.specs.Begun.{data_by, each_written, whole_of}
 use Rattle.writes.proofs.Laws.Begun.{first_done}
-use Rattle.pd3120_c.specs.declared.WriteBegun.{WriteBegun}
-use Rattle.pd3120_c.specs.declared.calls.Rest.{Rest}
-use Rattle.pd3120_c.specs.Codes.{packed, Left, Ticked, WriteLeft, each_left, write_left}
+use Rattle.pd3120.specs.Parts.{WriteBy}
+use Rattle.pd3120_c.specs.Codes.{reply_code, answer_code, Left, Ticked}
+use Rattle.pd3120_c.proofs.Laws.Lengths.{reply-length}
 
 -- such a loop leaves as many
 length-filled : (done : ℕ → Bool) (g : ℕ → Channel → Channel) (xs ys : List Channel) → length (filled done g xs ys) ≡ length ys
@@ -141,45 +144,49 @@ follows m b l e = subst (λ (x : Begun). Ticked m (end x m)) (sym e) (whole-thro
 
 -- in the words of the two loops, which both end at place 0: m1 is left by the first, m2 by the second
 pub tick_left : (m : Module) (b : Begun) (d : DataChannel) (k1 k2 : ℕ) (m1 m2 : Module) → length m.channels ≡ 16 → b ≡ begun_of m
-    → d ≡ data_ticked_by b m.data_channel → k1 ≤ 0 → m1 ≡ with_channels (done_down (ticked_by b) 16 k1 m.channels) (left b m.channels d) → k2 ≤ 0
+    → d ≡ data_ticked_by b m.data_channel → k1 ≡ 0 → m1 ≡ with_channels (done_down (ticked_by b) 16 k1 m.channels) (left b m.channels d) → k2 ≡ 0
     → m2 ≡ with_channels (done_down (saved true) b.count k2 m1.channels) m1 → Ticked m m2
 tick_left m b d k1 k2 m1 m2 l e f z1 e1 z2 e2 =
-    let n1 : k1 ≡ 0 = omega arith in
-    let n2 : k2 ≡ 0 = omega arith in
     let g1 : m1 ≡ left b (filled (below 16) (λ (k : ℕ). ticked_by b) m.channels m.channels) d = e1
-    ∙ ap (λ (k : ℕ). left b (done_down (ticked_by b) 16 k m.channels) d) n1
+    ∙ ap (λ (k : ℕ). left b (done_down (ticked_by b) 16 k m.channels) d) z1
     ∙ ap (λ (cs : List Channel). left b cs d) (down_all (ticked_by b) 16 m.channels) in
     let g2 : m2 ≡ with_channels (saving b m1.channels) m1 = e2
-    ∙ ap (λ (k : ℕ). with_channels (done_down (saved true) b.count k m1.channels) m1) n2
+    ∙ ap (λ (k : ℕ). with_channels (done_down (saved true) b.count k m1.channels) m1) z2
     ∙ ap (λ (cs : List Channel). with_channels cs m1) (down_all (saved true) b.count m1.channels) in
     let g : m2 ≡ end b m = g2 ∙ ap (λ (x : Module). with_channels (saving b x.channels) x) g1 ∙ ap (left b (through b m.channels)) f in
     g ∙ follows m b l e
 
 -- ---- a write
 -- the module that it leaves
-abbrev pub written : WriteBegun → List Channel → DataChannel → Module
+abbrev pub written : Write.Begun → List Channel → DataChannel → Module
 written b cs d = record { shared = b.shared; service = b.service; channels = cs; data_channel = d }
 
--- its beginning, with the parts that it has put back
-abbrev pub begun_with : Shared → Service → Channel → Rest → WriteBegun
-begun_with s v ch r =
-    record { shared = s; service = v; channel = ch; count = r.count; number = r.number; of_data = r.of_data; place = r.place; word = r.word }
+-- what it does to the channel at place k when it comes to it
+abbrev pub each_by : Write.Begun → ℕ → Channel → Channel
+each_by b k ch = each_written (placed b.rest.place) b.rest.word k ch
 
 -- m1 is the box where the first parts are put back and the data channel is written; m' that at the end of the loop, which is at place k
-pub write_ends : (m : Module) (n : ℕ) (bs : List ℕ) (i : ℕ) (b : WriteBegun) (m1 : Module) (k : ℕ) (m' : Module) (code : ℕ) → length m'.channels ≡ 16
-    → i ≡ slot_of (n / 16) → WriteLeft m.shared m.service (get_or m.channels i nothing) n bs b
-    → m1 ≡ written b (set m.channels i b.channel) (data_by m.shared n bs m.data_channel) → k ≤ b.count → b.count ≤ k
-    → m' ≡ with_channels (done_up (each_left b) k m1.channels) m1
-    → code ≡ packed b.number 0 (data_error_of m') (general_error_of m') → Left (step m (write n bs)) m' code
-write_ends m n bs i b m1 k m' code l p h t u v g e =
-    let long : length m.channels ≡ 16 = sym (ap (λ (x : Module). length x.channels) t ∙ length-set m.channels i b.channel)
-    ∙ sym (as_long (below k) (each_left b) m1 m' g) ∙ l in
+pub write_ends : (m : Module) (n : ℕ) (bs : List ℕ) (i : ℕ) (b : Write.Begun) (m1 : Module) (k : ℕ) (m' : Module) (code : ℕ) → length m.channels ≡ 16
+    → i ≡ slot_of (n / 16) → WriteBy m.shared m.service (get_or m.channels i nothing) n bs b
+    → m1 ≡ written b (set m.channels i b.channel) (data_by m.shared n bs m.data_channel)
+    → k ≡ b.rest.count → m' ≡ with_channels (done_up (each_by b) k m1.channels) m1
+    → code ≡ reply_code b.rest.reply (data_error_of m') (general_error_of m') → Left (step m (write n bs)) m' code
+write_ends m n bs i b m1 k m' code l p h t at g e =
     let own = ap (λ (j : ℕ). get_or m.channels j nothing) (sym p) in
-    let w = h.2 m (record { shared_is = refl; service_is = refl; sixteen = long; channel_is = own }) in
+    let w = h.2 m (record { shared_is = refl; service_is = refl; sixteen = l; channel_is = own }) in
     let d = data_by m.shared n bs m.data_channel in
     let cs = set m.channels i b.channel in
-    let at : k ≡ b.count = omega arith in
-    let full = g ∙ ap (λ (x : Module). with_channels (done_up (each_left b) k x.channels) x) t
-    ∙ ap (λ (j : ℕ). written b (done_up (each_left b) j cs) d) at ∙ ap (λ (ds : List Channel). written b ds d) (first_done (each_left b) b.count cs)
-    ∙ ap (λ (j : ℕ). write_left b j d m) p in
-    (full ∙ w.0, e ∙ ap (λ (x : Module). packed b.number 0 (data_error_of x) (general_error_of x)) full ∙ w.1)
+    let full = g ∙ ap (λ (x : Module). with_channels (done_up (each_by b) k x.channels) x) t
+    ∙ ap (λ (j : ℕ). written b (done_up (each_by b) j cs) d) at ∙ ap (λ (ds : List Channel). written b ds d) (first_done (each_by b) b.rest.count cs)
+    ∙ ap (λ (j : ℕ). whole_of b j d m) p in (
+      full ∙ ap (λ (x : Stepped). x.box) w,
+      e ∙ ap (λ (x : Module). reply_code b.rest.reply (data_error_of x) (general_error_of x)) full ∙ ap (λ (x : Stepped). answer_code x.answer) w,
+    )
+
+-- the length of its answer
+pub write-length : (m : Module) (n : ℕ) (bs : List ℕ) (i : ℕ) (b : Write.Begun) → length m.channels ≡ 16 → i ≡ slot_of (n / 16)
+    → WriteBy m.shared m.service (get_or m.channels i nothing) n bs b → length_of b.rest.reply ≤ image_size
+write-length m n bs i b l p h =
+    let own = ap (λ (j : ℕ). get_or m.channels j nothing) (sym p) in
+    reply-length m (write n bs) b.rest.reply [] _ _
+    (ap (λ (x : Stepped). x.answer) (h.2 m (record { shared_is = refl; service_is = refl; sixteen = l; channel_is = own })))

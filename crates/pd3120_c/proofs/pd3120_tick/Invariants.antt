@@ -10,20 +10,13 @@ use Rattle.pd3120_c.proofs.pd3120_tick.Given as goal
 
 abbrev pub invariant-loop-k : goal.invariant-loop-k
 invariant-loop-k l = record {
-  in_range : l.k ≤ 16;
   module_is : l.m ≡ with_channels (done_down (ticked_by l.begun) 16 l.k l.initial.m.channels) l.initial.m;
   -- the first turn tells it
   sixteen : l.k < 16 → length l.initial.m.channels ≡ 16;
 }
 
-abbrev pub decreases-loop-k : goal.decreases-loop-k
-decreases-loop-k l = l.k
-
 abbrev pub invariant-loop-k-2 : goal.invariant-loop-k-2
 invariant-loop-k-2 l = record {
-  in_range : l.k ≤ l.initial.k;
+  short : l.initial.k ≤ 16;
   module_is : l.m ≡ with_channels (done_down (saved true) l.initial.k l.k l.initial.m.channels) l.initial.m;
 }
-
-abbrev pub decreases-loop-k-2 : goal.decreases-loop-k-2
-decreases-loop-k-2 l = l.k

@@ -1,5 +1,4 @@
 use mathlib.Core.Path.{◌≡◌}
-use Prim.Native.Nat.{◌-◌, ◌≤◌}
 use lib.ListN.{length}
 use Rattle.model.specs.State.{with_channels}
 use Rattle.registers.specs.Places.{placed}
@@ -9,10 +8,6 @@ use Rattle.pd3120_c.proofs.pd3120_write.Given as goal
 
 abbrev pub invariant-loop-k : goal.invariant-loop-k
 invariant-loop-k l = record {
-  in_range : l.k ≤ l.begun.count;
-  module_is : l.m ≡ with_channels (done_up (each_written (placed l.begun.place) l.begun.word) l.k l.initial.m.channels) l.initial.m;
+  module_is : l.m ≡ with_channels (done_up (each_written (placed l.rest.place) l.rest.word) l.k l.initial.m.channels) l.initial.m;
   sixteen : length l.m.channels ≡ 16;
 }
-
-abbrev pub decreases-loop-k : goal.decreases-loop-k
-decreases-loop-k l = l.begun.count - l.k

@@ -142,7 +142,7 @@ module _ (s : Shared) (v : Service) (ch : Channel) (n : ℕ) (bs : List ℕ) (p 
       → s' ≡ shared_after (placed p) bs s → v' ≡ service_after (placed p) v → ch' ≡ channel_after (placed p) s bs ch
       → count ≡ count_of (placed p) → of-data ≡ of_data_of (placed p) → word ≡ written_word (placed p) bs
       → BegunBy s v ch n bs
-      (record { reply = r; shared = s'; service = v'; channel = ch'; count = count; of_data = of-data; place = p; word = word })
+      (record { shared = s'; service = v'; channel = ch'; rest = record { reply = r; count = count; of_data = of-data; place = p; word = word } })
   begun-done k d s' v' ch' count of-data word es ev ec en eo ew = (
     rw en (count_fits (placed p)),
     λ x o. data-by s n bs (placed p) r x e w ∙ rw d (data-stays (placed p) s bs x (sym eo ∙ o)),
@@ -152,7 +152,7 @@ module _ (s : Shared) (v : Service) (ch : Channel) (n : ℕ) (bs : List ℕ) (p 
   )
 
   pub begun-refused : (q : Refusal) → r ≡ Err q
-      → BegunBy s v ch n bs (record { reply = r; shared = s; service = v; channel = ch; count = 0; of_data = false; place = p; word = 0 })
+      → BegunBy s v ch n bs (record { shared = s; service = v; channel = ch; rest = record { reply = r; count = 0; of_data = false; place = p; word = 0 } })
   begun-refused q d = (
     omega arith,
     λ x o. data-by s n bs (placed p) r x e w ∙ rw d,
@@ -163,7 +163,7 @@ module _ (s : Shared) (v : Service) (ch : Channel) (n : ℕ) (bs : List ℕ) (p 
 -- a box with the parts that a write begins with, and its channels after the second step, is the box that the write leaves
 pub ended : (m : Module) (n : ℕ) (bs : List ℕ) (i : ℕ) (b : Begun) (cs : List Channel) (d : DataChannel) → i ≡ slot_of (n / 16) → length m.channels ≡ 16
     → BegunBy m.shared m.service (get_or m.channels i nothing) n bs b
-    → cs ≡ first_each (each_written (placed b.place) b.word) b.count (set m.channels i b.channel)
+    → cs ≡ first_each (each_written (placed b.rest.place) b.rest.word) b.rest.count (set m.channels i b.channel)
     → d ≡ data_by m.shared n bs (data_channel_of m)
-    → record { reply = b.reply; after = module_of b.shared b.service cs d } ≡ write_of m n bs
+    → record { reply = b.rest.reply; after = module_of b.shared b.service cs d } ≡ write_of m n bs
 ended m n bs i b cs d e l h q f = rw (q, e, f) (h.2 m refl refl l (ap (λ (j : ℕ). get_or m.channels j nothing) (sym e)))

@@ -8,7 +8,7 @@ unfolding step
 returns-in-Ok c =
     let a = c.args in
     let r = c.minute_reply-reply in
-    λ m p. set r.result (minute_reply a.minute) _ a.minute _ _ r.ensures c.in-Ok.is c.with_minute.ensures m p
+    λ m p. set r.result (minute_reply a.minute) _ a.minute _ _ r.ensures c.in-Ok.is c.with_minute-after.ensures m p
 
 pub returns-in-Err : goal.returns-in-Err
 unfolding step

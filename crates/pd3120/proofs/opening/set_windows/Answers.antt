@@ -13,7 +13,7 @@ returns-in-Ok c =
     let ws = a.windows.now in
     λ m p.
     done r.result (windows_reply a.channel ws) _ a.channel (with_timetable (timetable_of ws)) _ _ r.ensures c.in-Ok.is
-    (has-channel a.channel ws) c.with_windows.ensures m p
+    (has-channel a.channel ws) c.with_windows-after.ensures m p
 
 pub returns-in-Err : goal.returns-in-Err
 unfolding step

@@ -14,7 +14,7 @@ returns-in-Ok c =
     let k = a.channel in
     λ m e p.
     done r.result (sample_reply k a.amperes) _ k (take_sample m.shared a.level a.amperes) _ _ r.ensures c.in-Ok.is
-    (is-digital k a.amperes) (c.take_sample.ensures ∙ ap (λ (t : Shared). take_sample t a.level a.amperes a.ch) (sym e)) m p
+    (is-digital k a.amperes) (c.take_sample-after.ensures ∙ ap (λ (t : Shared). take_sample t a.level a.amperes a.ch) (sym e)) m p
 
 pub returns-in-Err : goal.returns-in-Err
 unfolding step

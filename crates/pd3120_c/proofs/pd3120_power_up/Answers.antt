@@ -2,14 +2,14 @@ use mathlib.Core.Path.{ap, ◌∙◌}
 use Rattle.model.specs.Calls.{Answer}
 use Rattle.pd3120_c.specs.Codes.{answer_code}
 use Rattle.pd3120_c.proofs.Laws.Lengths.{power-up-length}
-use Rattle.pd3120_c.proofs.calls.power_up.Goals as goal
+use Rattle.pd3120_c.proofs.pd3120_power_up.Goals as goal
 
 pub pack-requires : goal.pack-requires
-pack-requires c = power-up-length c.args.img.now c.power_up_in_place-reply.result c.power_up_in_place-reply.ensures.answer_is
+pack-requires c = power-up-length c.args.image.now c.power_up_in_place.result c.power_up_in_place.ensures.answer_is
 
 pub returns : goal.returns
 returns c =
-    let e = c.power_up_in_place-reply.ensures in
+    let e = c.power_up_in_place.ensures in
     let number = ap (λ (a : Answer). a.number) e.answer_is in
     record {
       left = (e.box_is, c.pack.ensures ∙ ap answer_code e.answer_is);

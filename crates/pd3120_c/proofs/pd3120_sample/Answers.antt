@@ -1,0 +1,18 @@
+use mathlib.Core.Path.{refl, sym, ap}
+use Prim.Native.Nat.{ℕ}
+use lib.ListN.{get_or}
+use Rattle.model.specs.State.{nothing}
+use Rattle.pd3120_c.proofs.Laws.Answers.{left}
+use Rattle.pd3120_c.proofs.Laws.Lengths.{plain-length}
+use Rattle.pd3120_c.proofs.pd3120_sample.Goals as goal
+
+pub pack-requires : goal.pack-requires
+pack-requires c =
+    let m = c.args.m.now in
+    plain-length _ _ _ _ (c.take-taken.ensures m refl (ap (λ (i : ℕ). get_or m.channels i nothing) (sym c.slot-at.ensures.0)))
+
+pub returns : goal.returns
+returns c =
+    let m = c.args.m.now in
+    let at = c.slot-at.ensures.0 in
+    rw at (left _ _ _ _ (c.take-taken.ensures m refl (ap (λ (i : ℕ). get_or m.channels i nothing) (sym at))) c.pack.ensures)
