@@ -7,6 +7,7 @@ ghost use Rattle.model.specs.Calls.{power_up, stored};
 ghost use Rattle.model.specs.Questions.{accepted};
 ghost use Rattle.image.specs.Answers.{sized_reply};
 
+use checks::Image;
 use model::{Module, Refusal, Reply};
 
 mod checks; // the questions of power-up
@@ -27,9 +28,10 @@ pub fn power_up_reply(img: &[u8]) -> Reply
     if !checks::size_right(img) {
         return Reply::Refused(Refusal::ImageLength);
     }
-    let counts = checks::counts_right(img);
-    let sum = checks::sum_right(img);
-    let values = checks::values_allowed(img);
+    let image = Image { bytes: img };
+    let counts = image.counts_right();
+    let sum = image.sum_right();
+    let values = image.values_allowed();
     in_order(counts, sum, values)
 }
 
@@ -65,11 +67,11 @@ pub fn power_up_in_place(m: &mut Module, img: &[u8]) -> Reply
 {
     let reply = power_up_reply(img);
     if is_done(reply) {
-        decode::put_box(img, m);
+        Image { bytes: img }.put_box(m);
         return reply;
     }
     let zeros = [0; sizes::IMAGE];
-    decode::put_box(&zeros, m);
+    Image { bytes: &zeros }.put_box(m);
     reply
 }
 
@@ -91,10 +93,10 @@ pub fn store(m: Module, buf: &mut [u8]) -> Reply
     ensures reply { result ≡ store_reply buf.old }
     ensures buffer { buf.new ≡ stored m buf.old }
 {
-    if buf.len() < sizes::IMAGE {
+    let Some(image) = buf.first_chunk_mut::<{ sizes::IMAGE }>() else {
         return Reply::Refused(Refusal::NoRoom);
-    }
-    encode::put_body(m, buf);
-    encode::put_sum(buf);
+    };
+    encode::put_body(m, image);
+    encode::put_sum(image);
     Reply::Done(sizes::IMAGE)
 }
