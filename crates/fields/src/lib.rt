@@ -1,16 +1,22 @@
 // The values that the bytes of a register or of a setup image hold, and which settings are allowed.
-// The length of the bytes is asked before.
+// The length of the bytes is asked before. Each contract says it, and none takes an array: a caller
+// holds a register's bytes as a slice that is as long as its row says, and std makes an array of a
+// slice only with a case for every other length, which would be a refusal that no document has.
 #![tactic(auto)]
 
 ghost use Rattle.std.specs.Prelude.{◌≡◌, length};
 ghost use Rattle.integers.specs.Bytes.{number, signed_number};
 ghost use Rattle.numbers.specs.Reals.{real_from};
 ghost use Rattle.model.specs.Lookup.{pair_of};
+ghost use Rattle.model.specs.Reads.{config_bytes};
 ghost use Rattle.model.specs.Image.{part, config_from, table_from, function_allowed, config_allowed, module_config_allowed, real_allowed, table_allowed, table_size};
+
+pub mod none; // what a power-up and a reset clear
 
 use integers::bytes;
 use model::{Config, LevelTable, Pair};
 use numbers::reals;
+use std::array;
 
 pub fn word_from(b: &[u8]) -> u16
     requires { length b.now ≡ 2 }
@@ -40,18 +46,13 @@ pub fn real_from(b: &[u8]) -> f32
     reals::of_bytes(b[0], b[1], b[2], b[3])
 }
 
-pub fn four_from(b: &[u8]) -> [u8; 4]
-    requires { length b.now ≡ 4 }
+pub fn array_from<const N: usize>(b: &[u8]) -> [u8; N]
+    requires { length b.now ≡ N }
     ensures { result ≡ b.now }
 {
-    [b[0], b[1], b[2], b[3]]
-}
-
-pub fn eight_from(b: &[u8]) -> [u8; 8]
-    requires { length b.now ≡ 8 }
-    ensures { result ≡ b.now }
-{
-    [b[0], b[1], b[2], b[3], b[4], b[5], b[6], b[7]]
+    let mut a = [0; N];
+    a.copy_from_slice(b);
+    a
 }
 
 pub fn config_from(b: &[u8]) -> Config
@@ -64,6 +65,12 @@ pub fn config_from(b: &[u8]) -> Config
         ref_a: b[2],
         ref_b: b[3],
     }
+}
+
+pub fn config_bytes(g: Config) -> [u8; 4]
+    ensures { result ≡ config_bytes g }
+{
+    [g.enablebit, g.functions, g.ref_a, g.ref_b]
 }
 
 fn function_allowed(n: u8) -> bool
@@ -103,20 +110,11 @@ pub fn table_allowed(b: &[u8]) -> bool
     requires { length b.now ≡ table_size }
     ensures { result ≡ table_allowed b.now }
 {
-    let mut all = true;
-    for k in 0..10 {
-        let at = 8 * k;
-        let middle = at + 4;
-        let end = at + 8;
-        let x = real_allowed(&b[at..middle]);
-        let y = real_allowed(&b[middle..end]);
-        all = all & (x & y);
-    }
-    all
+    let (reals, _) = b.as_chunks::<4>();
+    reals.iter().all(|x| real_allowed(x))
 }
 
-fn pair_from(b: &[u8]) -> Pair
-    requires { length b.now ≡ 8 }
+fn pair_from(b: &[u8; 8]) -> Pair
     ensures { result ≡ pair_of (real_from (part 0 4 b.now)) (real_from (part 4 4 b.now)) }
 {
     Pair {
@@ -130,13 +128,8 @@ pub fn table_from(b: &[u8]) -> LevelTable
     requires { length b.now ≡ table_size }
     ensures { result ≡ table_from b.now }
 {
-    let first = pair_from(&b[0..8]);
-    let mut pairs = [first; 10];
-    for k in 0..10 {
-        let at = 8 * k;
-        let end = at + 8;
-        let pair = pair_from(&b[at..end]);
-        pairs[k] = pair;
+    let (pairs, _) = b.as_chunks::<8>();
+    LevelTable {
+        pairs: array::from_fn(|k| pair_from(&pairs[k])),
     }
-    LevelTable { pairs: pairs }
 }

@@ -1,9 +1,7 @@
 // The questions of power-up, 10 to 13.
-ghost use Rattle.std.specs.Prelude.{◌≡◌, ◌*◌, ◌≤◌, length};
-ghost use Rattle.numbers.specs.Reals.{real_from};
-ghost use Rattle.numbers.specs.Written.{limit_allowed};
+ghost use Rattle.std.specs.Prelude.{◌≡◌, ◌*◌, ◌≤◌, ltb, length};
 ghost use Rattle.model.specs.Image.{module_size, entry_size, data_size, image_size, total, size_right, counts_right, sum_right};
-ghost use Rattle.model.specs.Image.{preset_count_allowed, module_allowed, entry_allowed, entries_allowed, kept_allowed, values_allowed};
+ghost use Rattle.model.specs.Image.{module_allowed, entry_allowed, entries_allowed, kept_allowed, values_allowed};
 ghost use Rattle.image.specs.Lengths.{KnownLength};
 
 use crate::sizes;
@@ -16,20 +14,11 @@ pub(crate) fn size_right(img: &[u8]) -> bool
     (img.len() == sizes::WITH_CHANNELS) | (img.len() == sizes::WITH_DATA)
 }
 
-// The other questions are put to an image of a known length.
-pub(crate) fn counts_right(img: &[u8]) -> bool
-    requires { KnownLength img.now }
-    ensures { result ≡ counts_right img.now }
-{
-    let first = img[0] == sizes::ONE_MODULE;
-    let second = img[sizes::SECOND_COUNT] == sizes::ALL_CHANNELS;
-    if img.len() < sizes::WITH_DATA {
-        let third = img[sizes::THIRD_COUNT] == sizes::ONE_SUM;
-        return first & (second & third);
-    }
-    let third = img[sizes::THIRD_COUNT] == sizes::ONE_DATA;
-    let fourth = img[sizes::FOURTH_COUNT] == sizes::ONE_SUM;
-    first & (second & (third & fourth))
+// The image to which the other questions are put: one of a known length.
+#[derive(Clone, Copy)]
+pub(crate) struct Image<'a> {
+    pub(crate) bytes: &'a [u8],
+    ghost known: { KnownLength bytes.now },
 }
 
 // The sum of the bytes.
@@ -37,40 +26,14 @@ pub(crate) fn sum(s: &[u8]) -> u32
     requires { length s.now ≤ image_size }
     ensures { result ≡ total s.now }
 {
-    let mut n: u32 = 0;
-    let mut i = 0;
-    while i < s.len() {
-        n += s[i] as u32;
-        i += 1;
-    }
-    n
-}
-
-// The sum is the last two bytes, however long the image is.
-pub(crate) fn sum_right(img: &[u8]) -> bool
-    requires { KnownLength img.now }
-    ensures { result ≡ sum_right img.now }
-{
-    let at = img.len() - sizes::SUM_BYTES;
-    let told = bytes::u16_of_bytes(img[at], img[at + 1]);
-    let n = sum(&img[..at]);
-    (told as u32) == n % 65536
+    s.iter().map(|b| u32::from(*b)).sum()
 }
 
 // A preset's count has no sign.
-fn preset_allowed(s: &[u8]) -> bool
-    requires { length s.now ≡ 4 }
-    ensures { result ≡ preset_count_allowed s.now }
+fn preset_allowed(n: u32) -> bool
+    ensures { result ≡ ltb n 2147483648 }
 {
-    fields::number_from(s) < 2147483648
-}
-
-// MinCurrent or MaxCurrent.
-fn limit_allowed(s: &[u8]) -> bool
-    requires { length s.now ≡ 4 }
-    ensures { result ≡ limit_allowed (real_from s.now) }
-{
-    written::limit_allowed(fields::real_from(s))
+    n < 2147483648
 }
 
 // The box's own section.
@@ -79,34 +42,28 @@ fn module_allowed(s: &[u8]) -> bool
     ensures { result ≡ module_allowed s.now }
 {
     let config = fields::module_config_allowed(&s[0..sizes::WD_PRESET]);
-    let preset = preset_allowed(&s[sizes::WD_PRESET..sizes::MODULE]);
-    config & preset
+    let preset = fields::number_from(&s[sizes::WD_PRESET..sizes::MODULE]);
+    config & preset_allowed(preset)
 }
 
-fn entry_allowed(s: &[u8]) -> bool
-    requires { length s.now ≡ entry_size }
+fn entry_allowed(s: &[u8; sizes::ENTRY]) -> bool
     ensures { result ≡ entry_allowed s.now }
 {
     let config = fields::config_allowed(&s[0..sizes::FEEDBACK]);
-    let feedback = preset_allowed(&s[sizes::FEEDBACK..sizes::OUT]);
-    let out = preset_allowed(&s[sizes::OUT..sizes::MIN]);
-    let min = limit_allowed(&s[sizes::MIN..sizes::MAX]);
-    let max = limit_allowed(&s[sizes::MAX..sizes::REALS]);
-    config & (feedback & (out & (min & max)))
+    let feedback = fields::number_from(&s[sizes::FEEDBACK..sizes::OUT]);
+    let out = fields::number_from(&s[sizes::OUT..sizes::MIN]);
+    let min = fields::real_from(&s[sizes::MIN..sizes::MAX]);
+    let max = fields::real_from(&s[sizes::MAX..sizes::REALS]);
+    let limits = written::limit_allowed(min) & written::limit_allowed(max);
+    config & (preset_allowed(feedback) & (preset_allowed(out) & limits))
 }
 
 fn entries_allowed(s: &[u8]) -> bool
-    requires { 16 * entry_size ≤ length s.now }
+    requires { length s.now ≡ 16 * entry_size }
     ensures { result ≡ entries_allowed 16 s.now }
 {
-    let mut all = true;
-    for k in 0..sizes::CHANNELS {
-        let at = sizes::ENTRY * k;
-        let end = at + sizes::ENTRY;
-        let next = entry_allowed(&s[at..end]);
-        all = all & next;
-    }
-    all
+    let (entries, _) = s.as_chunks::<{ sizes::ENTRY }>();
+    entries.iter().all(|e| entry_allowed(e))
 }
 
 // RealA, RealB and both tables.
@@ -121,16 +78,44 @@ fn data_allowed(s: &[u8]) -> bool
     a & (b & (table1 & table2))
 }
 
-// Every section that the image has.
-pub(crate) fn values_allowed(img: &[u8]) -> bool
-    requires { KnownLength img.now }
-    ensures { result ≡ values_allowed img.now }
-{
-    let module = module_allowed(&img[sizes::OWN..sizes::SECOND_COUNT]);
-    let entries = entries_allowed(&img[sizes::ENTRIES..sizes::THIRD_COUNT]);
-    if img.len() < sizes::WITH_DATA {
-        return module & entries;
+impl Image<'_> {
+    pub(crate) fn counts_right(&self) -> bool
+        ensures { result ≡ counts_right self.now.bytes.now }
+    {
+        let img = self.bytes;
+        let first = img[0] == sizes::ONE_MODULE;
+        let second = img[sizes::SECOND_COUNT] == sizes::ALL_CHANNELS;
+        if img.len() < sizes::WITH_DATA {
+            let third = img[sizes::THIRD_COUNT] == sizes::ONE_SUM;
+            return first & (second & third);
+        }
+        let third = img[sizes::THIRD_COUNT] == sizes::ONE_DATA;
+        let fourth = img[sizes::FOURTH_COUNT] == sizes::ONE_SUM;
+        first & (second & (third & fourth))
     }
-    let data = data_allowed(&img[sizes::DATA_CHANNEL..sizes::FOURTH_COUNT]);
-    module & (entries & data)
+
+    // The sum is the last two bytes, however long the image is.
+    pub(crate) fn sum_right(&self) -> bool
+        ensures { result ≡ sum_right self.now.bytes.now }
+    {
+        let img = self.bytes;
+        let at = img.len() - sizes::SUM_BYTES;
+        let told = bytes::u16_of_bytes(img[at], img[at + 1]);
+        let n = sum(&img[..at]);
+        u32::from(told) == n % 65536
+    }
+
+    // Every section that the image has.
+    pub(crate) fn values_allowed(&self) -> bool
+        ensures { result ≡ values_allowed self.now.bytes.now }
+    {
+        let img = self.bytes;
+        let module = module_allowed(&img[sizes::OWN..sizes::SECOND_COUNT]);
+        let entries = entries_allowed(&img[sizes::ENTRIES..sizes::THIRD_COUNT]);
+        if img.len() < sizes::WITH_DATA {
+            return module & entries;
+        }
+        let data = data_allowed(&img[sizes::DATA_CHANNEL..sizes::FOURTH_COUNT]);
+        module & (entries & data)
+    }
 }

@@ -5,6 +5,7 @@ ghost use Rattle.std.specs.Prelude.{◌≡◌};
 ghost use Rattle.model.specs.Questions.{power_up_reply, store_reply};
 ghost use Rattle.model.specs.Calls.{power_up, stored};
 
+use checks::Image;
 use model::{Module, Outcome, Refusal, Reply};
 use questions::ask;
 
@@ -17,9 +18,10 @@ pub fn power_up_reply(img: &[u8]) -> Reply
     ensures { result ≡ power_up_reply img.now }
 {
     ask(checks::size_right(img), Refusal::ImageLength)?;
-    ask(checks::counts_right(img), Refusal::ImageCounts)?;
-    ask(checks::sum_right(img), Refusal::ImageSum)?;
-    ask(checks::values_allowed(img), Refusal::ImageValues)?;
+    let image = Image { bytes: img };
+    ask(image.counts_right(), Refusal::ImageCounts)?;
+    ask(image.sum_right(), Refusal::ImageSum)?;
+    ask(image.values_allowed(), Refusal::ImageValues)?;
     Ok(0)
 }
 
@@ -30,11 +32,11 @@ pub fn power_up_in_place(m: &mut Module, img: &[u8]) -> Reply
 {
     let reply = power_up_reply(img);
     if reply.is_ok() {
-        decode::put_box(img, m);
+        Image { bytes: img }.put_box(m);
         return reply;
     }
     let zeros = [0; sizes::IMAGE];
-    decode::put_box(&zeros, m);
+    Image { bytes: &zeros }.put_box(m);
     reply
 }
 
@@ -56,8 +58,10 @@ pub fn store(m: Module, buf: &mut [u8]) -> Reply
     ensures reply { result ≡ store_reply buf.old }
     ensures buffer { buf.new ≡ stored m buf.old }
 {
-    ask(sizes::IMAGE <= buf.len(), Refusal::NoRoom)?;
-    encode::put_body(m, buf);
-    encode::put_sum(buf);
+    let Some(image) = buf.first_chunk_mut::<{ sizes::IMAGE }>() else {
+        return Err(Refusal::NoRoom);
+    };
+    encode::put_body(m, image);
+    encode::put_sum(image);
     Ok(sizes::IMAGE)
 }

@@ -6,7 +6,9 @@ ghost use Rattle.reads.specs.Held.{width, held};
 // The size of the largest register but the level tables.
 pub const WIDTH: usize = 12;
 
-// The first len of bytes are the register's, the rest are 0.
+// The first len of bytes are the register's, the rest are 0. A `Vec` in their place would allocate,
+// and a slice of the lent buffer would ask for room in every arm of a register: DECISIONS, "The bytes
+// of a register go through one record".
 #[derive(Clone, Copy)]
 pub struct RegisterBytes {
     pub bytes: [u8; WIDTH],
@@ -19,11 +21,7 @@ pub(crate) fn hold(src: &[u8]) -> RegisterBytes
 {
     let n = src.len();
     let mut bytes = [0; WIDTH];
-    let mut i = 0;
-    while i < n {
-        bytes[i] = src[i];
-        i += 1;
-    }
+    bytes[..n].copy_from_slice(src);
     RegisterBytes {
         bytes: bytes,
         len: n,
@@ -36,10 +34,5 @@ pub(crate) fn copy_out(b: RegisterBytes, buf: &mut [u8])
     ensures { buf.new ≡ overwritten (take b.len b.bytes) buf.old }
 {
     let len = b.len;
-    let bytes = b.bytes;
-    let mut i = 0;
-    while i < len {
-        buf[i] = bytes[i];
-        i += 1;
-    }
+    buf[..len].copy_from_slice(&b.bytes[..len]);
 }

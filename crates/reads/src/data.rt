@@ -15,14 +15,14 @@ fn put_timer(t: TimerCount, buf: &mut [u8])
     requires { 4 ≤ length buf.old }
     ensures { buf.new ≡ overwritten (timer_bytes t) buf.old }
 {
-    buffers::put_word(reals::bytes_of(times::timer_real(t)), buf, 0);
+    buffers::put_array(reals::bytes_of(times::timer_real(t)), buf, 0);
 }
 
 fn put_real(x: f32, buf: &mut [u8])
     requires { 4 ≤ length buf.old }
     ensures { buf.new ≡ overwritten (real_bytes x) buf.old }
 {
-    buffers::put_word(reals::bytes_of(x), buf, 0);
+    buffers::put_array(reals::bytes_of(x), buf, 0);
 }
 
 fn put_table(t: LevelTable, buf: &mut [u8])

@@ -4,63 +4,31 @@ ghost use Rattle.integers.specs.Bytes.{bytes_of, signed_bytes};
 ghost use Rattle.numbers.specs.Reals.{real_bytes, real_of};
 ghost use Rattle.counts.specs.Counts.{operating_units};
 ghost use Rattle.model.specs.Errors.{bit_value};
-ghost use Rattle.model.specs.Reads.{timer_bytes, config_bytes};
+ghost use Rattle.model.specs.Reads.{timer_bytes};
 ghost use Rattle.reads.specs.Held.{held};
 
-use crate::buffer;
-use crate::buffer::RegisterBytes;
+use crate::buffer::{RegisterBytes, hold};
 use counts::{OperatingCount, TimerCount};
 use errors::bits;
 use integers::bytes;
-use model::Config;
 use numbers::{reals, times};
-
-pub(crate) fn one(b: u8) -> RegisterBytes
-    ensures { result ≡ held (b ∷ []) }
-{
-    buffer::hold(&[b])
-}
-
-pub(crate) fn two(b: [u8; 2]) -> RegisterBytes
-    ensures { result ≡ held b }
-{
-    buffer::hold(&b)
-}
-
-pub(crate) fn four(b: [u8; 4]) -> RegisterBytes
-    ensures { result ≡ held b }
-{
-    buffer::hold(&b)
-}
-
-pub(crate) fn eight(b: [u8; 8]) -> RegisterBytes
-    ensures { result ≡ held b }
-{
-    buffer::hold(&b)
-}
-
-pub(crate) fn twelve(b: [u8; 12]) -> RegisterBytes
-    ensures { result ≡ held b }
-{
-    buffer::hold(&b)
-}
 
 pub(crate) fn truth(b: bool) -> RegisterBytes
     ensures { result ≡ held (bit_value b ∷ []) }
 {
-    one(bits::bit(b))
+    hold(&[bits::bit(b)])
 }
 
 pub(crate) fn signed(z: i32) -> RegisterBytes
     ensures { result ≡ held (signed_bytes 4 z) }
 {
-    four(bytes::bytes_of_i32(z))
+    hold(&bytes::bytes_of_i32(z))
 }
 
 pub(crate) fn real(x: f32) -> RegisterBytes
     ensures { result ≡ held (real_bytes x) }
 {
-    four(reals::bytes_of(x))
+    hold(&reals::bytes_of(x))
 }
 
 pub(crate) fn timer(t: TimerCount) -> RegisterBytes
@@ -75,14 +43,8 @@ pub(crate) fn operating(t: OperatingCount) -> RegisterBytes
     real(times::operating_real(t))
 }
 
-pub(crate) fn config(g: Config) -> RegisterBytes
-    ensures { result ≡ held (config_bytes g) }
-{
-    four([g.enablebit, g.functions, g.ref_a, g.ref_b])
-}
-
 pub(crate) fn word(w: u16) -> RegisterBytes
     ensures { result ≡ held (bytes_of 2 w) }
 {
-    two(bytes::bytes_of_u16(w))
+    hold(&bytes::bytes_of_u16(w))
 }

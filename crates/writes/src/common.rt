@@ -10,7 +10,6 @@ pub(crate) fn write_bit(r: CommonRegister, on: bool, ch: Channel) -> Channel
     match r {
         CommonRegister::OutFlags => channel::write_out_flag(on, ch),
         CommonRegister::InFlags => channel::simulate(on, ch),
-        CommonRegister::IOChError => ch,
-        CommonRegister::ChError => ch,
+        _ => ch,
     }
 }

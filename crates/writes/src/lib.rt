@@ -15,7 +15,6 @@ mod data;
 mod digital;
 mod reset;
 mod service;
-mod values;
 
 use model::{Channel, DataChannel, Module, Outcome, Reply, Service, Shared};
 use registers::Place;

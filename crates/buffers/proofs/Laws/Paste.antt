@@ -1,12 +1,11 @@
 -- Bytes written over a buffer, one piece after another. Assumes nothing.
 use mathlib.Core.Path.{◌≡◌, sym, ap, ◌∙◌}
 use mathlib.Core.List.{List, [], ◌++◌, append_assoc}
-use Prim.Native.Nat.{ℕ, suc, ◌+◌, ◌<◌, ◌≤◌}
+use Prim.Native.Nat.{ℕ, ◌+◌, ◌≤◌}
 use native.Mathlib.Omega.{arith}
 use native.Mathlib.Nat.{zero-add}
-use native.Mathlib.Numerals.{add-one}
-use lib.ListN.{length, take, drop, get_or, set, length-take, length-drop, length-append, take-append-drop}
-use lib.Seq.{drop-drop, take_at, length-take-le, drop-append-add, paste-suc}
+use lib.ListN.{length, take, drop, length-take, length-drop, length-append, take-append-drop}
+use lib.Seq.{drop-drop, take_at, length-take-le, drop-append-add}
 use Rattle.buffers.specs.Pasted.{pasted}
 
 -- nothing written leaves the buffer
@@ -53,15 +52,6 @@ pasted-on d at a x p q h =
 -- the same bytes, written in another way
 pub pasted-as : {b a x : List ℕ} {n : ℕ} (d : List ℕ) (at : ℕ) → a ≡ x → (b ≡ pasted d at a) × (length a ≡ n) → (b ≡ pasted d at x) × (length x ≡ n)
 pasted-as d at e p = (p.0 ∙ ap (pasted d at) e, ap length (sym e) ∙ p.1)
-
--- one more byte is copied
-pub pasted-more : (d : List ℕ) (at : ℕ) (s : List ℕ) (j : ℕ) → at + j < length d → j < length s → set (pasted d at (take j s)) (at + j) (get_or s j 0)
-    ≡ pasted d at (take (j + 1) s)
-unfolding pasted
-pasted-more d at s j h k =
-    let m : length (take j s) ≡ j = length-take-le j s (omega arith) in
-    let n : length (take (suc j) s) ≡ suc j = length-take-le (suc j) s (omega arith) in
-    rw (add-one, m, n) (simp append_assoc at (paste-suc d at s j 0 h k))
 
 -- what is written from the start on
 pub pasted-start : (d b : List ℕ) → pasted d 0 b ≡ b ++ drop (length b) d

@@ -5,5 +5,5 @@ pub returns : goal.returns
 returns c =
     let s = c in
     let a = s.args in
-    let first = c.put_word in
-    pasted-on a.buf.now a.at a.a a.b first.ensures c.put_word-2.ensures s.requires
+    let first = c.put_array in
+    pasted-on a.buf.now a.at a.a a.b first.ensures c.put_array-2.ensures s.requires

@@ -1,31 +1,26 @@
-use borrow.Author.Rules.{rules}
-use mathlib.Core.Path.{◌≡◌, refl, sym, ap, ◌∙◌}
-use Prim.Native.Nat.{ℕ, ◌+◌, ◌*◌, ◌-◌}
-use native.Mathlib.Numerals.{add-one}
-use native.Mathlib.Omega.{arith}
-use lib.ListN.{take, drop}
+use Rattle.std.proofs.Common.{rules, ◌≡◌, refl, ap, ◌∙◌, List, ℕ, zero, suc, drop}
+use Rattle.std.proofs.lemmas.Iterator.{YieldsList-from_slice}
+use Rattle.std.proofs.lemmas.Iterator.Search.{all_from_yields_List}
+use Rattle.std.proofs.Math.Seq.{drop-drop}
+use Rattle.std.specs.List.{list_all}
+use Rattle.std.specs.Simd.{first_chunks}
 use Rattle.model.specs.Image.{real_allowed, pairs_allowed}
-use Rattle.model.proofs.Laws.Tables.{pairs-more}
 use Rattle.fields.proofs.table_allowed.Goals as goal
 
-pub loop-k-init : goal.loop-k-init
-unfolding pairs_allowed
-loop-k-init c = (search rules, refl)
+-- the Reals of n pairs
+abbrev twice : ℕ → ℕ
+twice zero = zero
+twice (suc n) = suc (suc (twice n))
 
-pub loop-k-preserved : goal.loop-k-preserved
-loop-k-preserved c =
-    let l = c in
-    let s = l.args.b.now in
-    let k = l.loop-k.k in
-    let u : (8 * k + 4) - 8 * k ≡ 4 = omega arith in
-    let v : (8 * k + 8) - (8 * k + 4) ≡ 4 = omega arith in
-    let x : c.real_allowed-x.result ≡ real_allowed (take 4 (drop (8 * k) s)) = c.real_allowed-x.ensures
-    ∙ ap (λ (n : ℕ). real_allowed (take n (drop (8 * k) s))) u in
-    let y : c.real_allowed-y.result ≡ real_allowed (take 4 (drop (8 * k + 4) s)) = c.real_allowed-y.ensures
-    ∙ ap (λ (n : ℕ). real_allowed (take n (drop (8 * k + 4) s))) v in
-    (omega arith, rw (x, y, l.loop-k.invariant.1, add-one) (sym (pairs-more k s)))
+-- pair by pair, or Real by Real
+by_reals : (n : ℕ) (l : List ℕ) → list_all real_allowed (first_chunks 4 (twice n) l) ≡ pairs_allowed n l
+unfolding pairs_allowed
+by_reals zero l = refl
+by_reals (suc n) l = rw (drop-drop 4 4 l, by_reals n (drop 8 l)) refl
 
 pub returns : goal.returns
 returns c =
-    let e : c.loop-k.k ≡ 10 = omega arith in
-    rw e at c.loop-k.invariant.1
+    let reals = c.as_chunks.result.0.now in
+    all_from_yields_List real_allowed _ _ c.all.result c.all.ensures.ran (YieldsList-from_slice reals cc) (λ x b q k. search rules)
+    ∙ ap (list_all real_allowed) c.as_chunks.ensures.front
+    ∙ rw c.requires (by_reals 10 c.args.b.now)

@@ -1,14 +1,10 @@
 -- Lists of a known length, byte by byte. Assumes nothing.
 use mathlib.Core.Path.{◌≡◌}
 use mathlib.Core.List.{List, [], ◌∷◌}
-use Prim.Native.Nat.{ℕ, suc, ◌+◌, ◌-◌}
+use Prim.Native.Nat.{ℕ, suc, ◌+◌}
 use native.Mathlib.Omega.{arith}
-use lib.ListN.{length, take, drop, get_or, length-drop, drop_of_length-le}
-use lib.Seq.{take_all, drop-cons}
-
--- a part that goes to the end
-pub to_the_end : (n : ℕ) (l : List ℕ) → take (length l - n) (drop n l) ≡ drop n l
-to_the_end n l = take_all (length l - n) (drop n l) (simp length-drop (omega arith))
+use lib.ListN.{length, drop, get_or, drop_of_length-le}
+use lib.Seq.{drop-cons}
 
 -- what stands after n bytes, where two do
 pub last-two : (n : ℕ) (l : List ℕ) → length l ≡ n + 2 → get_or l n 0 ∷ get_or l (suc n) 0 ∷ [] ≡ drop n l

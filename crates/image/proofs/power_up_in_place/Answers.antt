@@ -6,9 +6,10 @@ use Rattle.image.proofs.Laws.Sections.{filled-sized}
 use Rattle.image.proofs.Laws.Tests.{done-sized, started-done, started-refused}
 use Rattle.image.proofs.power_up_in_place.Goals as goal
 
-pub put_box-requires : goal.put_box-requires
-put_box-requires c = done-sized c.args.img.now
-    (sym (c.is_ok.ensures.value ∙ ap is_ok c.power_up_reply-reply.ensures) ∙ c.if-is_ok.true)
+pub invariant_of-put_box : goal.invariant_of-put_box
+invariant_of-put_box c =
+    let done = sym (c.is_ok.ensures.value ∙ ap is_ok c.power_up_reply-reply.ensures) ∙ c.if-is_ok.true in
+    record { known = done-sized c.args.img.now done }
 
 pub returns-then-is_ok : goal.returns-then-is_ok
 unfolding power_up
@@ -18,8 +19,8 @@ returns-then-is_ok c =
     let done = sym (c.is_ok.ensures.value ∙ ap is_ok reply) ∙ c.if-is_ok.true in
     record { after = c.put_box.ensures ∙ started-done (power_up_reply img) img done; reply = reply }
 
-pub put_box-requires-2 : goal.put_box-requires-2
-put_box-requires-2 c = filled-sized _
+pub invariant_of-put_box-2 : goal.invariant_of-put_box-2
+invariant_of-put_box-2 c = record { known = filled-sized _ }
 
 pub returns : goal.returns
 unfolding power_up

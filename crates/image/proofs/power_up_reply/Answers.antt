@@ -10,8 +10,8 @@ returns-in_err-ask c =
     let p = err_from_is_err_and c.from_residual.result c.from_residual.ensures.1 in
     rw (p.1, p.2, c.in_err-ask.ensures.why) (simp (sym c.size_right.ensures ∙ c.in_err-ask.ensures.no))
 
-pub counts_right-requires : goal.counts_right-requires
-counts_right-requires c = sized c.args.img.now (sym c.size_right.ensures ∙ c.in_ok-ask.ensures.yes)
+pub invariant_of-image : goal.invariant_of-image
+invariant_of-image c = record { known = sized c.args.img.now (sym c.size_right.ensures ∙ c.in_ok-ask.ensures.yes) }
 
 pub returns-in_err-ask-2 : goal.returns-in_err-ask-2
 unfolding power_up_reply
@@ -19,17 +19,11 @@ returns-in_err-ask-2 c =
     let p = err_from_is_err_and c.from_residual-in_err-ask-2.result c.from_residual-in_err-ask-2.ensures.1 in
     rw (p.1, p.2, c.in_err-ask-2.ensures.why) (simp (sym c.size_right.ensures ∙ c.in_ok-ask.ensures.yes, sym c.counts_right.ensures ∙ c.in_err-ask-2.ensures.no))
 
-pub sum_right-requires : goal.sum_right-requires
-sum_right-requires c = sized c.args.img.now (sym c.size_right.ensures ∙ c.in_ok-ask.ensures.yes)
-
 pub returns-in_err-ask-3 : goal.returns-in_err-ask-3
 unfolding power_up_reply
 returns-in_err-ask-3 c =
     let p = err_from_is_err_and c.from_residual-in_err-ask-3.result c.from_residual-in_err-ask-3.ensures.1 in
     rw (p.1, p.2, c.in_err-ask-3.ensures.why) (simp (sym c.size_right.ensures ∙ c.in_ok-ask.ensures.yes, sym c.counts_right.ensures ∙ c.in_ok-ask-2.ensures.yes, sym c.sum_right.ensures ∙ c.in_err-ask-3.ensures.no))
-
-pub values_allowed-requires : goal.values_allowed-requires
-values_allowed-requires c = sized c.args.img.now (sym c.size_right.ensures ∙ c.in_ok-ask.ensures.yes)
 
 pub returns-in_err-ask-4 : goal.returns-in_err-ask-4
 unfolding power_up_reply

@@ -22,10 +22,10 @@ pub returns-in-IOChError : goal.returns-in-IOChError
 returns-in-IOChError c =
     let r = c.in-IOChError.is in
     let l : length c.io_ch_error.result ≡ 4 = search rules in
-    record { bytes = λ cs n e. simp (c.four.ensures, c.io_ch_error.ensures cs n e, r); size = rw r (held-size _ _ _ c.four.ensures l) }
+    record { bytes = λ cs n e. simp (c.hold.ensures, c.io_ch_error.ensures cs n e, r); size = rw r (held-size _ _ _ c.hold.ensures l) }
 
 pub returns-in-ChError : goal.returns-in-ChError
 returns-in-ChError c =
     let r = c.in-ChError.is in
     let l : length c.common_ch_error.result ≡ 4 = search rules in
-    record { bytes = λ cs n e. simp (c.four-in-ChError.ensures, c.common_ch_error.ensures cs n e, r); size = rw r (held-size _ _ _ c.four-in-ChError.ensures l) }
+    record { bytes = λ cs n e. simp (c.hold-in-ChError.ensures, c.common_ch_error.ensures cs n e, r); size = rw r (held-size _ _ _ c.hold-in-ChError.ensures l) }

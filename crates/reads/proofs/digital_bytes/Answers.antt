@@ -6,7 +6,7 @@ use Rattle.reads.proofs.digital_bytes.Goals as goal
 
 pub returns-in-FlagReg : goal.returns-in-FlagReg
 unfolding digital_bytes
-returns-in-FlagReg c = simp (c.one.ensures, c.flag_reg.ensures, c.in-FlagReg.is)
+returns-in-FlagReg c = simp (c.hold.ensures, c.flag_reg.ensures, c.in-FlagReg.is)
 
 pub returns-in-OutTimer : goal.returns-in-OutTimer
 unfolding digital_bytes
@@ -33,7 +33,7 @@ returns-in-OperatingTime c = simp (c.operating.ensures, c.in-OperatingTime.is)
 
 pub returns-in-UserBytes : goal.returns-in-UserBytes
 unfolding digital_bytes
-returns-in-UserBytes c = simp (c.four.ensures, c.in-UserBytes.is)
+returns-in-UserBytes c = simp (c.hold-in-UserBytes.ensures, c.in-UserBytes.is)
 
 pub returns-in-FBTimer : goal.returns-in-FBTimer
 unfolding digital_bytes
@@ -49,7 +49,7 @@ returns-in-OutPreset c = simp (c.timer-in-OutPreset.ensures, c.in-OutPreset.is)
 
 pub returns-in-ChConfig : goal.returns-in-ChConfig
 unfolding digital_bytes
-returns-in-ChConfig c = simp (c.config.ensures, c.in-ChConfig.is)
+returns-in-ChConfig c = simp (c.hold-in-ChConfig.ensures, c.config_bytes.ensures, c.in-ChConfig.is)
 
 pub returns-in-MinCurrent : goal.returns-in-MinCurrent
 unfolding digital_bytes
@@ -61,12 +61,12 @@ returns-in-MaxCurrent c = simp (c.real-in-MaxCurrent.ensures, c.in-MaxCurrent.is
 
 pub returns-in-UserReals : goal.returns-in-UserReals
 unfolding digital_bytes
-returns-in-UserReals c = simp (c.eight.ensures, c.in-UserReals.is)
+returns-in-UserReals c = simp (c.hold-in-UserReals.ensures, c.in-UserReals.is)
 
 pub returns-in-Maintenance : goal.returns-in-Maintenance
 unfolding digital_bytes
-returns-in-Maintenance c = simp (c.four-in-Maintenance.ensures, c.in-Maintenance.is)
+returns-in-Maintenance c = simp (c.hold-in-Maintenance.ensures, c.in-Maintenance.is)
 
 pub returns-in-ChError : goal.returns-in-ChError
 unfolding digital_bytes
-returns-in-ChError c = simp (c.four-in-ChError.ensures, c.ch_error.ensures, c.in-ChError.is)
+returns-in-ChError c = simp (c.hold-in-ChError.ensures, c.ch_error.ensures, c.in-ChError.is)

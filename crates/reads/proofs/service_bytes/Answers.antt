@@ -11,11 +11,11 @@ use Rattle.reads.proofs.service_bytes.Goals as goal
 
 pub returns-in-Highest : goal.returns-in-Highest
 unfolding service_bytes bytes_of
-returns-in-Highest c = let a = c.args in let o = own a.r a.s a.v a.w _ (λ d cs. simp (c.two.ensures, c.in-Highest.is)) in record { bytes = o.0; size = o.1 }
+returns-in-Highest c = let a = c.args in let o = own a.r a.s a.v a.w _ (λ d cs. simp (c.hold.ensures, c.in-Highest.is)) in record { bytes = o.0; size = o.1 }
 
 pub returns-in-Reset : goal.returns-in-Reset
 unfolding service_bytes
-returns-in-Reset c = let a = c.args in let o = own a.r a.s a.v a.w _ (λ d cs. simp (c.one.ensures, c.in-Reset.is)) in record { bytes = o.0; size = o.1 }
+returns-in-Reset c = let a = c.args in let o = own a.r a.s a.v a.w _ (λ d cs. simp (c.hold-in-Reset.ensures, c.in-Reset.is)) in record { bytes = o.0; size = o.1 }
 
 pub returns-in-FreeRunTimer : goal.returns-in-FreeRunTimer
 unfolding service_bytes
@@ -30,7 +30,7 @@ returns-in-WDTimer c = let a = c.args in let o = own a.r a.s a.v a.w _ (λ d cs.
 
 pub returns-in-ModuleConfig : goal.returns-in-ModuleConfig
 unfolding service_bytes
-returns-in-ModuleConfig c = let a = c.args in let o = own a.r a.s a.v a.w _ (λ d cs. simp (c.config.ensures, c.in-ModuleConfig.is)) in record { bytes = o.0; size = o.1 }
+returns-in-ModuleConfig c = let a = c.args in let o = own a.r a.s a.v a.w _ (λ d cs. simp (c.hold-in-ModuleConfig.ensures, c.config_bytes.ensures, c.in-ModuleConfig.is)) in record { bytes = o.0; size = o.1 }
 
 pub returns-in-WDPreset : goal.returns-in-WDPreset
 unfolding service_bytes
@@ -47,6 +47,6 @@ returns-in-CommonError c =
     let l : length c.common_error.result ≡ 12 = search rules in
     let r = c.in-CommonError.is in
     record {
-      bytes = λ d cs n e. simp (c.twelve.ensures, c.common_error.ensures (box_of a.s a.v d cs) refl n e, r);
-      size = rw r (held-size _ _ _ c.twelve.ensures l);
+      bytes = λ d cs n e. simp (c.hold-in-CommonError.ensures, c.common_error.ensures (box_of a.s a.v d cs) refl n e, r);
+      size = rw r (held-size _ _ _ c.hold-in-CommonError.ensures l);
     }

@@ -1,27 +1,20 @@
-use borrow.Author.Rules.{rules}
-use mathlib.Core.Path.{◌≡◌, refl, sym, ap, ◌∙◌}
-use Prim.Native.Nat.{ℕ, ◌+◌, ◌*◌, ◌-◌}
-use native.Mathlib.Numerals.{add-one}
-use native.Mathlib.Omega.{arith}
-use lib.ListN.{take, drop}
-use Rattle.image.proofs.Laws.Entries.{allowed-more}
+use Rattle.std.proofs.Common.{rules, ◌≡◌, refl, ap, ◌∙◌, List, ℕ, zero, suc, drop}
+use Rattle.std.proofs.lemmas.Iterator.{YieldsList-from_slice}
+use Rattle.std.proofs.lemmas.Iterator.Search.{all_from_yields_List}
+use Rattle.std.specs.List.{list_all}
+use Rattle.std.specs.Simd.{first_chunks}
 use Rattle.model.specs.Image.{entry_allowed, entries_allowed}
 use Rattle.image.proofs.checks.entries_allowed.Goals as goal
 
-pub loop-k-init : goal.loop-k-init
+-- entry by entry
+by_entries : (n : ℕ) (l : List ℕ) → list_all entry_allowed (first_chunks 44 n l) ≡ entries_allowed n l
 unfolding entries_allowed
-loop-k-init c = (search rules, refl)
-
-pub loop-k-preserved : goal.loop-k-preserved
-loop-k-preserved c =
-    let s = c.args.s.now in
-    let k = c.loop-k.k in
-    let w : (44 * k + 44) - 44 * k ≡ 44 = omega arith in
-    let next : c.entry_allowed-next.result ≡ entry_allowed (take 44 (drop (44 * k) s)) =
-    c.entry_allowed-next.ensures ∙ ap (λ (n : ℕ). entry_allowed (take n (drop (44 * k) s))) w in
-    (omega arith, rw (next, c.loop-k.invariant.1, add-one) (sym (allowed-more k s)))
+by_entries zero l = refl
+by_entries (suc n) l = rw (by_entries n (drop 44 l)) refl
 
 pub returns : goal.returns
 returns c =
-    let e : c.loop-k.k ≡ 16 = omega arith in
-    rw e at c.loop-k.invariant.1
+    let entries = c.as_chunks.result.0.now in
+    all_from_yields_List entry_allowed _ _ c.all.result c.all.ensures.ran (YieldsList-from_slice entries cc) (λ x b q k. search rules)
+    ∙ ap (list_all entry_allowed) c.as_chunks.ensures.front
+    ∙ rw c.requires (by_entries 16 c.args.s.now)

@@ -1,41 +1,36 @@
-use borrow.Author.Rules.{rules}
-use mathlib.Core.Path.{◌≡◌, sym, ap, ◌∙◌}
-use Prim.Native.Nat.{ℕ, suc, ◌+◌, ◌*◌, ◌-◌, ◌<◌}
+use Rattle.std.proofs.Common.{arith, ◌≡◌, refl, sym, ap, ◌∙◌, List, [], ℕ, zero, suc, ◌<◌, length, get_or, drop}
 use native.Mathlib.Numerals.{add-one}
-use native.Mathlib.Omega.{arith}
-use lib.ListN.{length, take, drop, get_or}
+use Rattle.std.specs.Simd.{first_chunks}
 use Rattle.model.specs.Image.{entry_from, entries_from}
 use Rattle.model.specs.Restored.{restored}
 use Rattle.model.proofs.Laws.Filled.{none, one_more, below, below_none, all-below, up}
 use Rattle.model.proofs.Images.Sequence.{entries-count}
-use Rattle.image.proofs.Laws.Entries.{entry_at}
 use Rattle.image.proofs.decode.put_channels.Goals as goal
 
+-- entry k of the row, from its own 44 bytes
+entry_of_chunk : (n : ℕ) (l : List ℕ) (k : ℕ) → k < n → entry_from (get_or (first_chunks 44 n l) k []) ≡ get_or (entries_from n l) k (entry_from [])
+unfolding entries_from
+entry_of_chunk zero l k h = absurd (omega arith)
+entry_of_chunk (suc n) l zero h = refl
+entry_of_chunk (suc n) l (suc k) h = entry_of_chunk n (drop 44 l) k (omega arith)
+
 pub loop-k-init : goal.loop-k-init
-loop-k-init c =
-    let l = c.args.s.now in
-    (search rules, c.requires.1, sym (none (λ (j : ℕ). restored) (below 0) (entries_from 16 l) _ (λ j h. below_none j)))
+loop-k-init c = sym (none (λ (j : ℕ). restored) (below 0) (entries_from 16 c.args.s.now) _ (λ j h. below_none j))
 
 pub loop-k-preserved : goal.loop-k-preserved
 loop-k-preserved c =
     let l = c.args.s.now in
     let k = c.loop-k.k in
-    let w : (44 * k + 44) - 44 * k ≡ 44 = omega arith in
     let es = entries_from 16 l in
-    let d = entry_from l in
-    let n : k < length es = rw (entries-count 16 l) c.loop-k-test.true in
-    let ch : c.channel_of-ch.result ≡ restored (get_or es k d) =
-    c.channel_of-ch.ensures ∙ ap (λ (j : ℕ). restored (entry_from (take j (drop (44 * k) l)))) w ∙ ap restored
-    (sym (entry_at 16 l k d c.loop-k-test.true)) in (
-      omega arith,
-      c.loop-k.invariant.1,
-      rw (ch, c.loop-k.invariant.2, add-one) (one_more (λ (j : ℕ). restored) (below k) (below (suc k)) k es _ d n
-          (omega (arith, c.loop-k.invariant.1)) (up k)),
-    )
+    let low : k < 16 = omega arith in
+    let n : k < length es = rw (entries-count 16 l) low in
+    let chunks : c.as_chunks.result.0.now ≡ first_chunks 44 16 l = c.as_chunks.ensures.front ∙ rw c.requires.0 refl in
+    let ch : c.channel_of.result ≡ restored (get_or es k (entry_from [])) =
+    c.channel_of.ensures ∙ ap (λ (rows : List (List ℕ)). restored (entry_from (get_or rows k []))) chunks ∙ ap restored (entry_of_chunk 16 l k low) in
+    rw (ch, c.loop-k.invariant, add-one) (one_more (λ (j : ℕ). restored) (below k) (below (suc k)) k es _ (entry_from []) n (omega arith) (up k))
 
 pub returns : goal.returns
 returns c =
     let l = c.args.s.now in
     let e : c.loop-k.k ≡ 16 = omega arith in
-    let n = entries-count 16 l in
-    c.loop-k.invariant.2 ∙ rw e (all-below restored 16 (entries_from 16 l) _ n c.loop-k.invariant.1)
+    c.loop-k.invariant ∙ rw e (all-below restored 16 (entries_from 16 l) _ (entries-count 16 l) c.requires.1)

@@ -12,6 +12,4 @@ returns c =
     rw (
       to_z-of_z w32 z (search rules),
       c.no_windows.ensures,
-      c.no_errors-errors.ensures,
-      c.no_flags-flags.ensures,
     )

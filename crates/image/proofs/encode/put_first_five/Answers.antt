@@ -9,8 +9,7 @@ use Rattle.image.proofs.encode.put_first_five.Goals as goal
 
 pub returns : goal.returns
 returns c =
-    let buf = c.args.buf.now in
-    let at = c.args.at in
+    let buf = c.args.entry.now in
     let config = c.config_bytes-config in
     let feedback = c.timer_bytes-feedback in
     let out = c.timer_bytes-out in
@@ -18,9 +17,9 @@ returns c =
     let max = c.bytes_of-max in
     let ab = config.result ++ feedback.result in
     let cd = out.result ++ min.result in
-    let two = pasted-on buf at ab cd c.put_two.ensures c.put_two-2.ensures (omega (arith, c.requires)) in
-    let all = pasted-on buf at (ab ++ cd) max.result two c.put_word.ensures (omega (arith, c.requires)) in
+    let two = pasted-on buf 0 ab cd c.put_two.ensures c.put_two-2.ensures (omega arith) in
+    let all = pasted-on buf 0 (ab ++ cd) max.result two c.put_array.ensures (omega arith) in
     let whole : (ab ++ cd) ++ max.result ≡ first_five (entry_of c.args.ch) =
     regrouped config.result feedback.result out.result min.result max.result
     ∙ rw (config.ensures, feedback.ensures, out.ensures, min.ensures, max.ensures) (first-five (entry_of c.args.ch)) in
-    pasted-as buf at whole all
+    pasted-as buf 0 whole all

@@ -8,5 +8,5 @@ use Rattle.reads.proofs.data.put_real.Goals as goal
 pub returns : goal.returns
 returns c =
     let s = c.args in
-    c.put_word.ensures.0 ∙ pasted-start s.buf.now _
+    c.put_array.ensures.0 ∙ pasted-start s.buf.now _
     ∙ ap (λ (b : List ℕ). overwritten b s.buf.now) c.bytes_of.ensures

@@ -10,4 +10,4 @@ pub returns : goal.returns
 returns c =
     let s = c.args in
     let bytes = c.bytes_of.ensures ∙ ap real_bytes c.timer_real.ensures in
-    c.put_word.ensures.0 ∙ pasted-start s.buf.now _ ∙ ap (λ (b : List ℕ). overwritten b s.buf.now) bytes
+    c.put_array.ensures.0 ∙ pasted-start s.buf.now _ ∙ ap (λ (b : List ℕ). overwritten b s.buf.now) bytes

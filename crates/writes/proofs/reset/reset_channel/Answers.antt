@@ -11,6 +11,5 @@ returns c =
     let ch = c.args.ch in
     simp (
       c.no_windows-next.ensures,
-      c.no_errors-errors.ensures,
       to_z-of_z {w = w32} {z = ch.kept.counter} (search rules),
     )

@@ -1,4 +1,4 @@
 use Rattle.writes.proofs.reset.reset_shared.Goals as goal
 
 pub returns : goal.returns
-returns c = rw c.unset-next.ensures
+returns c = rw c.unset.ensures
