@@ -28,7 +28,7 @@ pub fn read_counter(m: Module, channel: u8) -> Reading
     let mut buf = [0u8; 4];
     let done = pd3120::read(m, (channel as u16) * 16 + COUNTER, &mut buf);
     let counter = match done.reply {
-        Ok(_) => Ok(bytes::i32_of_bytes(buf[0], buf[1], buf[2], buf[3])),
+        Ok(_) => Ok(bytes::i32_of_bytes(buf)),
         Err(why) => Err(why),
     };
     Reading {

@@ -22,28 +22,28 @@ pub fn word_from(b: &[u8]) -> u16
     requires { length b.now ≡ 2 }
     ensures { result ≡ number b.now }
 {
-    bytes::u16_of_bytes(b[0], b[1])
+    bytes::u16_of_bytes(array_from(b))
 }
 
 pub fn number_from(b: &[u8]) -> u32
     requires { length b.now ≡ 4 }
     ensures { result ≡ number b.now }
 {
-    bytes::u32_of_bytes(b[0], b[1], b[2], b[3])
+    bytes::u32_of_bytes(array_from(b))
 }
 
 pub fn signed_from(b: &[u8]) -> i32
     requires { length b.now ≡ 4 }
     ensures { result ≡ signed_number b.now }
 {
-    bytes::i32_of_bytes(b[0], b[1], b[2], b[3])
+    bytes::i32_of_bytes(array_from(b))
 }
 
 pub fn real_from(b: &[u8]) -> f32
     requires { length b.now ≡ 4 }
     ensures { result ≡ real_from b.now }
 {
-    reals::of_bytes(b[0], b[1], b[2], b[3])
+    reals::of_bytes(array_from(b))
 }
 
 pub fn array_from<const N: usize>(b: &[u8]) -> [u8; N]

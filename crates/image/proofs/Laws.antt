@@ -1,4 +1,3 @@
-pub mod Lists
 pub mod Sections
 pub mod Entries
 pub mod Halves

@@ -5,7 +5,6 @@ ghost use Rattle.model.specs.Image.{module_allowed, entry_allowed, entries_allow
 ghost use Rattle.image.specs.Lengths.{KnownLength};
 
 use crate::sizes;
-use integers::bytes;
 use numbers::written;
 
 pub(crate) fn size_right(img: &[u8]) -> bool
@@ -100,7 +99,7 @@ impl Image<'_> {
     {
         let img = self.bytes;
         let at = img.len() - sizes::SUM_BYTES;
-        let told = bytes::u16_of_bytes(img[at], img[at + 1]);
+        let told = fields::word_from(&img[at..]);
         let n = sum(&img[..at]);
         u32::from(told) == n % 65536
     }

@@ -1,5 +1,5 @@
 // Reals of 32 bits and their bit patterns. There is one NaN.
-ghost use Rattle.std.specs.Prelude.{◌≡◌, [], ◌∷◌};
+ghost use Rattle.std.specs.Prelude.{◌≡◌};
 ghost use Rattle.std.specs.Float.{binary32};
 ghost use Rattle.std.specs.Float.Ieee.{to_bits, of_bits};
 ghost use Rattle.std.specs.Float.Ieee.Scale.{finite};
@@ -34,10 +34,10 @@ pub fn is_finite(x: f32) -> bool
     x.is_finite()
 }
 
-pub fn of_bytes(a: u8, b: u8, c: u8, d: u8) -> f32
-    ensures { result ≡ real_from (a ∷ b ∷ c ∷ d ∷ []) }
+pub fn of_bytes(b: [u8; 4]) -> f32
+    ensures { result ≡ real_from b }
 {
-    of_bits(bytes::u32_of_bytes(a, b, c, d))
+    of_bits(bytes::u32_of_bytes(b))
 }
 
 pub fn bytes_of(x: f32) -> [u8; 4]

@@ -18,24 +18,21 @@ pub struct Word(pub [u8; 4]);
 
 impl Word {
     fn real(self) -> f32 {
-        let [a, b, c, d] = self.0;
-        reals::of_bytes(a, b, c, d)
+        reals::of_bytes(self.0)
     }
 
     fn signed(self) -> i32 {
-        let [a, b, c, d] = self.0;
-        bytes::i32_of_bytes(a, b, c, d)
+        bytes::i32_of_bytes(self.0)
     }
 
     fn unsigned(self) -> u32 {
-        let [a, b, c, d] = self.0;
-        bytes::u32_of_bytes(a, b, c, d)
+        bytes::u32_of_bytes(self.0)
     }
 
     // Of a kind of two bytes.
     fn short(self) -> u16 {
         let [_, _, c, d] = self.0;
-        bytes::u16_of_bytes(c, d)
+        bytes::u16_of_bytes([c, d])
     }
 
     fn timer(self) -> TimerCount {
