@@ -29,19 +29,11 @@ fn in_week(n: u32) -> bool
     is_minute(w.start) & is_minute(w.end)
 }
 
-// 18 of every start and end, from the last window to the first.
+// 18 of every start and end.
 fn are_minutes(windows: &[u32]) -> bool
     ensures { result ≡ are_minutes windows.now }
 {
-    let mut all = true;
-    let mut k = windows.len();
-    while 0 < k {
-        k -= 1;
-        let n = windows[k];
-        let one = in_week(n);
-        all = one & all;
-    }
-    all
+    windows.iter().all(|n| in_week(*n))
 }
 
 // 8 of the channel, 19 of how many windows there are, then 18 of each.

@@ -11,12 +11,7 @@ use registers::Place;
 fn all_zero(bytes: &[u8]) -> bool
     ensures { result ≡ all_zero bytes.now }
 {
-    for i in 0..bytes.len() {
-        if bytes[i] != 0 {
-            return false;
-        }
-    }
-    true
+    bytes.iter().all(|b| *b == 0)
 }
 
 fn service_allowed(r: ServiceRegister, bytes: &[u8]) -> bool

@@ -1,28 +1,17 @@
 -- What follows where a write is accepted, and the answer and the box of a write. Assumes nothing.
 use Rattle.std.specs.Prelude.{Ok}
 use mathlib.Core.Path.{◌≡◌, sym, ◌∙◌}
-use mathlib.Core.Bool.{Bool, true}
+use mathlib.Core.Bool.{Bool}
 use mathlib.Core.List.{List}
 use Prim.Native.Nat.{ℕ}
-use native.Mathlib.Omega.{arith}
-use lib.ListN.{length}
-use Rattle.model.specs.declared.CommonRegister.{CommonRegister}
-use Rattle.model.specs.declared.CommonRegister.TheVariants.{OutFlags, InFlags, IOChError, ChError}
 use Rattle.model.specs.declared.Module.{Module}
 use Rattle.model.specs.Questions.{Reply}
-use Rattle.model.specs.Registers.{Place, common, place, size}
+use Rattle.model.specs.Registers.{Place, place}
 use Rattle.model.specs.State.{write_enable_of}
-use Rattle.model.specs.Questions.{question3, write_reply}
+use Rattle.model.specs.Questions.{write_reply}
 use Rattle.model.specs.Calls.{write_leaves}
 use Rattle.questions.proofs.Laws.Answers.{accepted}
 use Rattle.writes.specs.Accepted.{Accepted, write_of}
-
--- the common registers that can be written have two bytes
-pub two_bytes : (r : CommonRegister) (bs : List ℕ) → question3 (common r) ≡ true → length bs ≡ size (common r) → length bs ≡ 2
-two_bytes OutFlags bs q e = e
-two_bytes InFlags bs q e = e
-two_bytes IOChError bs q e = let z : ◌≡◌ {A = ℕ} 0 1 = cc in absurd (omega arith)
-two_bytes ChError bs q e = let z : ◌≡◌ {A = ℕ} 0 1 = cc in absurd (omega arith)
 
 -- the questions of a write that is done
 pub done : (enable : Bool) (n : ℕ) (p : Place) (bs : List ℕ) (r : Reply) (k : ℕ) → r ≡ write_reply enable n p bs → r ≡ Ok k → Accepted p bs

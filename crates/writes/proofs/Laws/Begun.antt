@@ -50,7 +50,7 @@ pub first_done : (f : ℕ → Channel → Channel) (n : ℕ) (xs : List Channel)
 first_done f n xs = done_below f f (below n) n 0 xs (λ j. ap f (omega arith)) (λ j. refl)
 
 -- the first n of n channels are all
-all_of : (f : ℕ → Channel → Channel) (n i : ℕ) (xs : List Channel) → length xs ≡ n → each f i (take n xs) ++ drop n xs ≡ each f i xs
+pub all_of : (f : ℕ → Channel → Channel) (n i : ℕ) (xs : List Channel) → length xs ≡ n → each f i (take n xs) ++ drop n xs ≡ each f i xs
 all_of f zero i [] e = refl
 all_of f zero i (x ∷ xs) e = absurd (omega (arith, e))
 all_of f (suc n) i [] e = refl

@@ -2,14 +2,8 @@ use Rattle.writes.proofs.Laws.Accepted.{done}
 use Rattle.writes.proofs.Laws.Begun.{begun-done, begun-refused}
 use Rattle.writes.proofs.begin_in_place.Goals as goal
 
-pub shared_after-requires : goal.shared_after-requires
-shared_after-requires c = done _ _ _ _ _ _ c.write_reply-reply.ensures c.in-Ok.is
-
-pub channel_after-requires : goal.channel_after-requires
-channel_after-requires c = let t = c in done _ _ _ _ _ _ t.write_reply-reply.ensures c.in-Ok.is
-
-pub word_of-requires : goal.word_of-requires
-word_of-requires c = let t = c in done _ _ _ _ _ _ t.write_reply-reply.ensures c.in-Ok.is
+pub invariant_of-write : goal.invariant_of-write
+invariant_of-write c = record { accepted = done _ _ _ _ _ _ c.write_reply-reply.ensures c.in-Ok.is }
 
 pub returns-in-Ok : goal.returns-in-Ok
 returns-in-Ok c =
@@ -19,7 +13,7 @@ returns-in-Ok c =
     let a = t.args in
     begun-done a.s.now a.v.now a.ch.now a.swno a.b.now p.result w.result p.ensures w.ensures _ c.in-Ok.is _ _ _ _ _ _
     c.shared_after.ensures c.service_after.ensures
-    c.channel_after.ensures c.count_of.ensures c.of_data.ensures c.word_of.ensures
+    c.channel_after.ensures c.count.ensures c.of_data.ensures c.word.ensures
 
 pub returns-in-Err : goal.returns-in-Err
 returns-in-Err c =

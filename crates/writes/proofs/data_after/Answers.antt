@@ -3,8 +3,8 @@ use Rattle.writes.proofs.Laws.Accepted.{done}
 use Rattle.writes.proofs.Laws.Begun.{data-by}
 use Rattle.writes.proofs.data_after.Goals as goal
 
-pub data_written-requires : goal.data_written-requires
-data_written-requires c = done _ _ _ _ _ _ c.write_reply-reply.ensures c.in-Ok.is
+pub invariant_of-data_after : goal.invariant_of-data_after
+invariant_of-data_after c = record { accepted = done _ _ _ _ _ _ c.write_reply-reply.ensures c.in-Ok.is }
 
 pub returns-in-Ok : goal.returns-in-Ok
 returns-in-Ok c =
@@ -12,7 +12,7 @@ returns-in-Ok c =
     let w = t.write_reply-reply in
     let p = t.place_of-p in
     let a = t.args in
-    c.data_written.ensures ∙ sym (data-by a.s a.swno a.b.now _ w.result a.d p.ensures w.ensures ∙ rw c.in-Ok.is)
+    c.data_after.ensures ∙ sym (data-by a.s a.swno a.b.now _ w.result a.d p.ensures w.ensures ∙ rw c.in-Ok.is)
 
 pub returns-in-Err : goal.returns-in-Err
 returns-in-Err c =

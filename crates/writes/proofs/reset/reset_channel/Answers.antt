@@ -10,6 +10,6 @@ unfolding restored of_int of_bits
 returns c =
     let ch = c.args.ch in
     simp (
-      c.no_windows-next.ensures,
+      c.no_windows.ensures,
       to_z-of_z {w = w32} {z = ch.kept.counter} (search rules),
     )
