@@ -67,7 +67,7 @@ pub extern "C" fn pd3120_write(m: &mut Module, swno: u16, bytes: &[u8]) -> u32
     for k in 0..rest.count {
         writing::each(rest.place, rest.word, k, &mut m.channels[k]);
     }
-    let bits = writing::error_bits(m);
+    let bits = pd3120::error_bits(*m);
     codes::pack(rest.reply, bits.data_error, bits.general_error)
 }
 
