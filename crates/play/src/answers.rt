@@ -4,7 +4,7 @@ ghost use Rattle.std.specs.Prelude.{◌≤◌, length};
 use charge::Tariff;
 use integers::{bytes, signed};
 use model::{Module, Reply};
-use pd3120::replies;
+use pd3120::{WireBits, replies};
 use script::calls::{Blocks, Line, Parsed};
 use script::parameters::Wrong;
 use script::print;
@@ -55,44 +55,31 @@ fn put_store(out: &mut [u8], at: usize, reply: Reply, buffer: &[u8]) -> usize
 }
 
 // DATAERROR GENERALERROR
-fn put_bits(out: &mut [u8], at: usize, data_error: bool, general_error: bool) -> usize
+fn put_bits(out: &mut [u8], at: usize, bits: WireBits) -> usize
     requires { at ≤ length out.old }
     ensures { result ≤ length out.new }
 {
-    let to = print::put_bit(out, at, data_error);
-    print::put_bit(out, to, general_error)
+    let to = print::put_bit(out, at, bits.data_error);
+    print::put_bit(out, to, bits.general_error)
 }
 
 // read NUMBER LENGTH DATAERROR GENERALERROR BUFFER
-fn put_read(
-    out: &mut [u8],
-    at: usize,
-    reply: Reply,
-    data_error: bool,
-    general_error: bool,
-    buffer: &[u8],
-) -> usize
+fn put_read(out: &mut [u8], at: usize, reply: Reply, bits: WireBits, buffer: &[u8]) -> usize
     requires { at ≤ length out.old }
     ensures { result ≤ length out.new }
 {
     let t1 = put_start(out, at, b"read", reply);
-    let t2 = put_bits(out, t1, data_error, general_error);
+    let t2 = put_bits(out, t1, bits);
     put_buffer(out, t2, buffer)
 }
 
 // write NUMBER 0 DATAERROR GENERALERROR
-fn put_write(
-    out: &mut [u8],
-    at: usize,
-    reply: Reply,
-    data_error: bool,
-    general_error: bool,
-) -> usize
+fn put_write(out: &mut [u8], at: usize, reply: Reply, bits: WireBits) -> usize
     requires { at ≤ length out.old }
     ensures { result ≤ length out.new }
 {
     let t1 = put_start(out, at, b"write", reply);
-    let t2 = put_bits(out, t1, data_error, general_error);
+    let t2 = put_bits(out, t1, bits);
     print::put(out, t2, b"\n")
 }
 
@@ -196,8 +183,7 @@ pub(crate) fn put_answer(
     number: u64,
     m: Module,
     reply: Reply,
-    data_error: bool,
-    general_error: bool,
+    bits: WireBits,
     real_bits: u32,
     bytes: &[u8],
 ) -> usize
@@ -211,8 +197,8 @@ pub(crate) fn put_answer(
         Line::Error(why) => put_error(out, at, number, why),
         Line::Power => put_plain(out, at, b"power", reply),
         Line::Store => put_store(out, at, reply, bytes),
-        Line::Read(_) => put_read(out, at, reply, data_error, general_error, bytes),
-        Line::Write(_) => put_write(out, at, reply, data_error, general_error),
+        Line::Read(_) => put_read(out, at, reply, bits, bytes),
+        Line::Write(_) => put_write(out, at, reply, bits),
         Line::Sample(_, _, _) => put_plain(out, at, b"sample", reply),
         Line::LookUp(_, _) => put_look_up(out, at, reply, real_bits),
         Line::Tick(_) => put_plain(out, at, b"tick", reply),

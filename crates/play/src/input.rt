@@ -67,8 +67,7 @@ fn run_line(p: Player, line: &[u8], space: &mut [u8], out: &mut [u8], at: usize)
         number,
         after,
         reply,
-        answered.data_error,
-        answered.general_error,
+        answered.bits,
         answered.real_bits,
         &space[0..n],
     );
