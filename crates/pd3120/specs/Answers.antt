@@ -21,7 +21,7 @@ use Rattle.pd3120.specs.declared.Answered.{Answered}
 -- ---- the step of `step` that an answer says: its numbers, the lent buffer afterwards, and the box
 -- of a wire call, and of any call by `call`
 abbrev pub step_of : Answered → List ℕ → Stepped
-step_of r buf = record { answer = answer_of r.reply buf r.data_error r.general_error r.real_bits; box = r.after }
+step_of r buf = record { answer = answer_of r.reply buf r.bits.data_error r.bits.general_error r.real_bits; box = r.after }
 
 -- of a sample, and of a call of opening hours
 abbrev pub sample_of : Outcome Module → Stepped
@@ -29,7 +29,7 @@ sample_of r = record { answer = answer_of r.reply [] false false 0; box = r.afte
 
 -- a sample's as an answer of any call: no bits, and no Real
 abbrev pub plain_of : Outcome Module → Answered
-plain_of s = record { after = s.after; reply = s.reply; data_error = false; general_error = false; real_bits = 0 }
+plain_of s = record { after = s.after; reply = s.reply; bits = record { data_error = false; general_error = false }; real_bits = 0 }
 
 -- of a lookup in the box m, which gives the bits of its Real or is refused
 abbrev pub look_up_of : Result ℕ Refusal → Module → Stepped

@@ -29,7 +29,7 @@ pub record Has (s : Shared) (v : Service) (ch : Channel) (i : ℕ) (m : Module) 
 abbrev pub read_of : Module → ℕ → Changed → List ℕ → Stepped
 read_of m n r buf =
     record {
-      answer = answer_of r.reply buf r.data_error r.general_error 0;
+      answer = answer_of r.reply buf r.bits.data_error r.bits.general_error 0;
       box = put_back r.service (slot_of (n / 16)) r.channel m;
     }
 

@@ -22,13 +22,25 @@ use errors::words::Words;
 use model::{Call, Channel, DataChannel, Module, Outcome, Refusal, Reply, Service, Shared};
 use writes::{Begun, Rest};
 
+// DataError and GeneralError.
+#[derive(Clone, Copy)]
+pub struct WireBits {
+    pub data_error: bool,
+    pub general_error: bool,
+}
+
+// Those of a call that answers none.
+pub const NO_BITS: WireBits = WireBits {
+    data_error: false,
+    general_error: false,
+};
+
 // What a call answers, and the box that it leaves. real_bits are a lookup's, and 0 of any other call.
 #[derive(Clone, Copy)]
 pub struct Answered {
     pub after: Module,
     pub reply: Reply,
-    pub data_error: bool,
-    pub general_error: bool,
+    pub bits: WireBits,
     pub real_bits: u32,
 }
 
@@ -39,15 +51,7 @@ pub struct Changed {
     pub service: Service,
     pub channel: Channel,
     pub reply: Reply,
-    pub data_error: bool,
-    pub general_error: bool,
-}
-
-// DataError and GeneralError.
-#[derive(Clone, Copy)]
-pub struct WireBits {
-    pub data_error: bool,
-    pub general_error: bool,
+    pub bits: WireBits,
 }
 
 // A refused image gives the box of all-zero settings.
@@ -121,8 +125,10 @@ pub fn read_changes(
         service: preset_watchdog(s, done.service),
         channel: done.channel,
         reply: done.reply,
-        data_error: errors::data_error(ready, w.act != 0),
-        general_error: errors::general_error(ready, w.his != 0),
+        bits: WireBits {
+            data_error: errors::data_error(ready, w.act != 0),
+            general_error: errors::general_error(ready, w.his != 0),
+        },
     }
 }
 
@@ -146,8 +152,7 @@ pub fn read(m: Module, swno: u16, buf: &mut [u8]) -> Answered
     Answered {
         after: next,
         reply: done.reply,
-        data_error: done.data_error,
-        general_error: done.general_error,
+        bits: done.bits,
         real_bits: 0,
     }
 }
@@ -169,8 +174,8 @@ pub fn begin_write(s: Shared, v: Service, ch: Channel, swno: u16, bytes: &[u8]) 
     }
 }
 
-// The same for a caller that lends these parts. A call of its own in the compiled code, since its copies
-// would else deepen the stack of the exported write (PD3120_CALL_STACK).
+// The same for a caller that lends these parts. It is a call of its own in the compiled code: its
+// copies would else take the stack of the exported write to 1208 bytes, and PD3120_CALL_STACK is 1024.
 #[inline(never)]
 pub fn begin_write_in_place(
     s: &mut Shared,
@@ -200,8 +205,7 @@ pub fn write(m: Module, swno: u16, bytes: &[u8]) -> Answered
     Answered {
         after: next,
         reply: done.reply,
-        data_error: bits.data_error,
-        general_error: bits.general_error,
+        bits: bits,
         real_bits: 0,
     }
 }
@@ -265,7 +269,7 @@ pub fn tick(m: Module) -> Module
 pub fn output(m: Module, channel: u8) -> bool
     ensures { result ≡ output_at m channel }
 {
-    let k = channel as usize;
+    let k = usize::from(channel);
     (1..=16).contains(&k) && settings::output(m.channels[k - 1])
 }
 
@@ -276,8 +280,7 @@ fn plain(s: Outcome<Module>) -> Answered
     Answered {
         after: s.after,
         reply: s.reply,
-        data_error: false,
-        general_error: false,
+        bits: NO_BITS,
         real_bits: 0,
     }
 }
@@ -290,8 +293,7 @@ fn looked_up(m: Module, table: u8, x: f32) -> Answered
     Answered {
         after: m,
         reply: found.map(|_| 0),
-        data_error: false,
-        general_error: false,
+        bits: NO_BITS,
         real_bits: found.unwrap_or(0),
     }
 }

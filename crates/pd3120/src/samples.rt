@@ -11,7 +11,7 @@ use model::{Channel, Outcome, Shared};
 pub fn slot(channel: u8) -> usize
     ensures { (result ≡ slot_of channel) × (result < 16) }
 {
-    registers::slot(channel as usize)
+    registers::slot(usize::from(channel))
 }
 
 // s is the box's shared record, ch the channel at the place that `slot` gives.

@@ -13,14 +13,14 @@ mod writing;
 
 use errors::words;
 use model::Module;
-use pd3120::{lookups, opening, samples};
+use pd3120::{NO_BITS, lookups, opening, samples};
 
 // A refused image gives the box of all-zero settings.
 #[unsafe(no_mangle)]
 pub extern "C" fn pd3120_power_up(m: &mut Module, image: &[u8]) -> u32
     ensures { PoweredUp image.now m.new result }
 {
-    codes::pack(pd3120::power_up_in_place(m, image), false, false)
+    codes::pack(pd3120::power_up_in_place(m, image), NO_BITS)
 }
 
 // The kept values, as the first 886 bytes of the buffer.
@@ -28,7 +28,7 @@ pub extern "C" fn pd3120_power_up(m: &mut Module, image: &[u8]) -> u32
 pub extern "C" fn pd3120_store(m: &Module, buf: &mut [u8]) -> u32
     ensures { Stored m.now buf.old result buf.new }
 {
-    codes::pack(pd3120::store(*m, buf), false, false)
+    codes::pack(pd3120::store(*m, buf), NO_BITS)
 }
 
 #[unsafe(no_mangle)]
@@ -48,7 +48,7 @@ pub extern "C" fn pd3120_read(m: &mut Module, swno: u16, buf: &mut [u8]) -> u32
     );
     m.service = done.service;
     m.channels[at] = done.channel;
-    codes::pack(done.reply, done.data_error, done.general_error)
+    codes::pack(done.reply, done.bits)
 }
 
 // The data channel is written only where the register comes to it, so that other writes do not copy
@@ -67,8 +67,7 @@ pub extern "C" fn pd3120_write(m: &mut Module, swno: u16, bytes: &[u8]) -> u32
     for k in 0..rest.count {
         writing::each(rest.place, rest.word, k, &mut m.channels[k]);
     }
-    let bits = writing::error_bits(m);
-    codes::pack(rest.reply, bits.data_error, bits.general_error)
+    codes::pack(rest.reply, pd3120::error_bits(*m))
 }
 
 // The level first, then the current.
@@ -79,7 +78,7 @@ pub extern "C" fn pd3120_sample(m: &mut Module, channel: u8, level: bool, ampere
     let at = samples::slot(channel);
     let taken = samples::take(m.shared, m.channels[at], channel, level, amperes);
     m.channels[at] = taken.after;
-    codes::pack(taken.reply, false, false)
+    codes::pack(taken.reply, NO_BITS)
 }
 
 // The minute of the week, 0 to 10079.
@@ -89,7 +88,7 @@ pub extern "C" fn pd3120_set_minute(m: &mut Module, of_week: u16) -> u32
 {
     let set = opening::set_minute(m.shared, of_week);
     m.shared = set.after;
-    codes::pack(set.reply, false, false)
+    codes::pack(set.reply, NO_BITS)
 }
 
 // A channel's windows, given whole, each its start times 65536 plus its end.
@@ -100,7 +99,7 @@ pub extern "C" fn pd3120_set_windows(m: &mut Module, channel: u8, given: &[u32])
     let at = samples::slot(channel);
     let taken = opening::set_windows(m.channels[at], channel, given);
     m.channels[at] = taken.after;
-    codes::pack(taken.reply, false, false)
+    codes::pack(taken.reply, NO_BITS)
 }
 
 // The answer's number and the bits of its Real (specs/Codes.antt).

@@ -41,8 +41,8 @@ fn put_store(text: &mut Text, reply: Reply, buffer: &[u8]) {
 
 // DATAERROR GENERALERROR
 fn put_bits(text: &mut Text, answered: &Answered) {
-    text.put_bit(answered.data_error);
-    text.put_bit(answered.general_error);
+    text.put_bit(answered.bits.data_error);
+    text.put_bit(answered.bits.general_error);
 }
 
 // read NUMBER LENGTH DATAERROR GENERALERROR BUFFER

@@ -1,7 +1,7 @@
 // What the lines of a script do to the box.
 use model::{Call, Module, Reply};
 use numbers::reals;
-use pd3120::Answered;
+use pd3120::{Answered, NO_BITS};
 use script::calls::Line;
 
 // A box, and an answer with no bits.
@@ -9,8 +9,7 @@ fn plain(after: Module, reply: Reply) -> Answered {
     Answered {
         after,
         reply,
-        data_error: false,
-        general_error: false,
+        bits: NO_BITS,
         real_bits: 0,
     }
 }

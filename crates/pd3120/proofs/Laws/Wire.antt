@@ -24,6 +24,7 @@ use Rattle.reads.proofs.Back.{put-back}
 use Rattle.writes.specs.declared.Begun.{Begun}
 use Rattle.writes.specs.Accepted as Whole
 use Rattle.writes.specs.Begun.{data_by, whole_of, BegunBy}
+use Rattle.pd3120.specs.declared.WireBits.{WireBits}
 use Rattle.pd3120.specs.Answers.{step_of, RecordBy, SharedBy}
 use Rattle.pd3120.specs.Parts.{Has, read_of, write_of}
 
@@ -67,7 +68,7 @@ module _ (m : Module) (s : Shared) (v : Service) (ch : Channel) (x : DataChannel
         let b = cleared m in
         rw (i b (sym ready-is) (any-act w m.channels ws), j b (sym ready-is) (any-his w m.channels ws), buffer_is, is-reading)
 
-    pub read_by : read_of m n (record { service = after; channel = d.channel; reply = d.reply; data_error = act; general_error = his }) buffer
+    pub read_by : read_of m n (record { service = after; channel = d.channel; reply = d.reply; bits = record { data_error = act; general_error = his } }) buffer
         ≡ step m (read n lent)
     read_by = λ k. record { answer = answer_is k; box = box_is k }
 
@@ -115,8 +116,9 @@ module _ (m : Module) (s : Shared) (v : Service) (ch : Channel) (n : ℕ) (bs : 
   write-by = ap (answered d.rest.reply) whole_is ∙ written_as m n bs d.rest.reply reply-is
 
 -- a write of the whole box
-pub write-answer : (m : Module) (n : ℕ) (bs : List ℕ) (ready : Module) (d : Outcome Module) (after : Module) (act his : Bool)
-    → ready ≡ cleared m → d ≡ Whole.write_of ready n bs → after ≡ watchdog_preset d.after → act ≡ data_error_of d.after → his ≡ general_error_of d.after
-    → step_of (record { after = after; reply = d.reply; data_error = act; general_error = his; real_bits = 0 }) [] ≡ step m (write n bs)
+pub write-answer : (m : Module) (n : ℕ) (bs : List ℕ) (ready : Module) (d : Outcome Module) (after : Module) (bits : WireBits)
+    → ready ≡ cleared m → d ≡ Whole.write_of ready n bs → after ≡ watchdog_preset d.after
+    → bits ≡ record { data_error = data_error_of d.after; general_error = general_error_of d.after }
+    → step_of (record { after = after; reply = d.reply; bits = bits; real_bits = 0 }) [] ≡ step m (write n bs)
 unfolding step Whole.write_of cleared
-write-answer m n bs ready d after act his e f g h i = rw (g, h, i, f, e)
+write-answer m n bs ready d after bits e f g h = rw (g, h, f, e)

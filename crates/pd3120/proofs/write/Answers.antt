@@ -1,7 +1,6 @@
-use mathlib.Core.Path.{refl, ap}
+use mathlib.Core.Path.{refl}
 use Rattle.model.specs.Calls.{watchdog_preset}
 use Rattle.reads.specs.Reading.{box_of}
-use Rattle.pd3120.specs.declared.WireBits.{WireBits}
 use Rattle.pd3120.proofs.Laws.Wire.{cleared-box, write-answer}
 use Rattle.pd3120.proofs.write.Goals as goal
 
@@ -13,7 +12,5 @@ returns c =
     let k = c.clear-cleared in
     let w = c.write-done in
     let after = w.result.after in
-    let bits = c.error_bits-bits.ensures in
-    write-answer m s.swno s.bytes.now (box_of m.shared k.result m.data_channel m.channels) w.result _ _ _
-    (cleared-box m k.result (k.ensures m refl)) w.ensures (rw (c.preset_watchdog-next.ensures after refl refl))
-    (ap (λ (b : WireBits). b.data_error) bits) (ap (λ (b : WireBits). b.general_error) bits)
+    write-answer m s.swno s.bytes.now (box_of m.shared k.result m.data_channel m.channels) w.result _ _
+    (cleared-box m k.result (k.ensures m refl)) w.ensures (rw (c.preset_watchdog-next.ensures after refl refl)) c.error_bits-bits.ensures

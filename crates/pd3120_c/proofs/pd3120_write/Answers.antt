@@ -44,4 +44,4 @@ returns c =
       | else-rest w ↦ w.m-is ∙ ap put (sym (r.ensures.1 m.data_channel w.if-rest.false))
     ] in
     write_ends m n bs i b c.if-rest.m c.loop-k.k c.loop-k.m _ l c.wire_slot-at.ensures.0 r.ensures wrote (omega arith) c.loop-k.invariant.module_is
-    (c.pack.ensures ∙ ap (λ (w : WireBits). reply_code c.begin_write_in_place-rest.result.reply w.data_error w.general_error) c.error_bits-bits.ensures)
+    (c.pack.ensures ∙ ap (λ (w : WireBits). reply_code c.begin_write_in_place-rest.result.reply w.data_error w.general_error) c.error_bits.ensures)
