@@ -145,6 +145,8 @@ pub fn in_a(levels: u16, ch: Channel) -> bool
     level_of(levels, ref_a(ch))
 }
 
+// One function for InA and InB would be given the reference and the simulated level, which is all
+// that they say.
 #[tactic(auto, unfolding(model::specs::Settings::in_b_of))]
 pub fn in_b(levels: u16, ch: Channel) -> bool
     ensures { result ≡ in_b_of (levels_of levels) ch }
