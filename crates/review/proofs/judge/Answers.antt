@@ -3,4 +3,4 @@ use Rattle.review.proofs.judge.Goals as goal
 
 pub returns : goal.returns
 unfolding judged
-returns c = simp (c.join.ensures, c.find-act.ensures)
+returns c = simp (c.join-his.ensures, c.find-act.ensures)

@@ -4,7 +4,7 @@ use Rattle.review.proofs.look.Goals as goal
 
 pub returns-then-look_due : goal.returns-then-look_due
 unfolding looked
-returns-then-look_due c = simp (c.feedback_wrong-wrong.ensures, sym c.look_due.ensures ∙ c.if-look_due.true)
+returns-then-look_due c = simp (c.feedback_wrong-next.ensures, sym c.look_due.ensures ∙ c.if-look_due.true)
 
 pub returns : goal.returns
 unfolding looked
