@@ -1,3 +1,2 @@
-pub mod Reads
 pub mod Down
 pub mod Quarters

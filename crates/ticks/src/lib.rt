@@ -12,6 +12,7 @@ ghost use Rattle.ticks.specs.PutBack.{put_back};
 
 use counts::TimerCount;
 use model::{Channel, DataChannel, DataTimers, Module, Service, Shared};
+use std::hint::select_unpredictable;
 
 // What a tick has worked out when it comes to the channels: the shared record and the service record
 // after step 1, how many channels it saves in the end (all or none), whether the watchdog ran out,
@@ -35,17 +36,14 @@ pub fn save_due(s: Shared) -> bool
 pub fn tick_shared(s: Shared) -> Shared
     ensures { result ≡ tick_shared s }
 {
-    let timer = s.free_run_timer;
-    let saving = s.save_ticks;
-    let clock = s.clock;
     let mut next = s;
-    next.free_run_timer = timer.free_run_tick();
-    next.clock = hours::tick(clock);
+    next.free_run_timer = s.free_run_timer.free_run_tick();
+    next.clock = hours::tick(s.clock);
     if save_due(s) {
         next.save_ticks = 0;
         return next;
     }
-    next.save_ticks = saving + 1;
+    next.save_ticks += 1;
     next
 }
 
@@ -59,7 +57,7 @@ fn watchdog_on(s: Shared) -> bool
 fn is_zero(t: TimerCount) -> bool
     ensures { result ≡ is_zero t }
 {
-    !t.negative() & !t.positive()
+    t.0 == 0
 }
 
 // s and t are those of the tick's start.
@@ -72,20 +70,11 @@ pub fn runs_out(s: Shared, t: TimerCount) -> bool
 pub fn tick_service(ran_out: bool, v: Service) -> Service
     ensures { result ≡ tick_service ran_out v }
 {
-    let watchdog = v.wd_timer;
-    let act = v.act.wd_run_out | ran_out;
-    let his = v.his.wd_run_out | ran_out;
     let mut next = v;
-    next.wd_timer = watchdog.watchdog_tick();
-    next.act.wd_run_out = act;
-    next.his.wd_run_out = his;
+    next.wd_timer = v.wd_timer.watchdog_tick();
+    next.act.wd_run_out |= ran_out;
+    next.his.wd_run_out |= ran_out;
     next
-}
-
-fn bit(b: bool) -> u16
-    ensures { result ≡ bit_value b }
-{
-    if b { 1 } else { 0 }
 }
 
 // The InFlags, from channel 16 down, so that channel 1 comes to bit 0.
@@ -93,12 +82,8 @@ pub fn levels(channels: [Channel; 16]) -> u16
     ensures { result ≡ word_of (map in_flag_of channels) }
 {
     let mut r: u16 = 0;
-    let mut k = 16;
-    while 0 < k {
-        k -= 1;
-        let ch = channels[k];
-        let b = bit(ch.flags.in_flag);
-        r = r * 2 + b;
+    for ch in channels.iter().rev() {
+        r = r * 2 + u16::from(ch.flags.in_flag);
     }
     r
 }
@@ -113,27 +98,19 @@ fn levels_looked_at(s: Shared, channels: [Channel; 16]) -> u16
     0
 }
 
-fn count_if(due: bool) -> usize
-    ensures { result ≡ cond due 16 0 }
-{
-    if due { 16 } else { 0 }
-}
-
 // Step 1, and what the channels will need of the box as the tick found it.
 pub fn begin(m: Module) -> Begun
     ensures { result ≡ begun_of m }
 {
     let before = m.shared;
-    let service = m.service;
-    let channels = m.channels;
-    let ran_out = runs_out(before, service.wd_timer);
+    let ran_out = runs_out(before, m.service.wd_timer);
     let after = tick_shared(before);
     Begun {
         shared: after,
-        service: tick_service(ran_out, service),
-        count: count_if(save_due(before)),
-        ran_out: ran_out,
-        levels: levels_looked_at(after, channels),
+        service: tick_service(ran_out, m.service),
+        count: select_unpredictable(save_due(before), 16, 0),
+        ran_out,
+        levels: levels_looked_at(after, m.channels),
     }
 }
 
@@ -149,17 +126,13 @@ fn tick_channel(s: Shared, ran_out: bool, levels: u16, ch: Channel) -> Channel
 fn put_back(after: Channel, ch: Channel) -> Channel
     ensures { result ≡ put_back after ch }
 {
-    let flags = after.flags;
-    let out = after.out_timer;
-    let feedback = after.fb_timer;
-    let operating = after.operating;
     let mut next = ch;
-    next.flags = flags;
-    next.out_timer = out;
-    next.fb_timer = feedback;
+    next.flags = after.flags;
+    next.out_timer = after.out_timer;
+    next.fb_timer = after.fb_timer;
     next.errors.act.0 = after.errors.act.0;
     next.errors.his.0 = after.errors.his.0;
-    next.operating = operating;
+    next.operating = after.operating;
     next.quarters = after.quarters;
     next
 }
@@ -181,12 +154,10 @@ pub fn tick_data(b: Begun, d: DataChannel) -> DataChannel
         a: before.a.out_timer_tick(),
         b: before.b.out_timer_tick(),
     };
-    let real_a = d.reals.a;
     let mut next = d;
     next.timers = timers;
     if 0 < b.count {
-        next.kept.a = real_a;
-        return next;
+        next.kept.a = d.reals.a;
     }
     next
 }
@@ -196,12 +167,8 @@ fn tick_channels(b: Begun, due: bool, channels: [Channel; 16]) -> [Channel; 16]
     ensures { result ≡ map (λ ch. saved due (ticked_by b ch)) channels }
 {
     let mut next = channels;
-    let mut k: usize = 16;
-    while 0 < k {
-        k -= 1;
-        let ch = next[k];
-        let after = review::save(due, tick_one(b, ch));
-        next[k] = after;
+    for k in (0..16).rev() {
+        next[k] = review::save(due, tick_one(b, next[k]));
     }
     next
 }
@@ -211,14 +178,10 @@ pub fn tick(m: Module) -> Module
 {
     let b = begin(m);
     let due = save_due(m.shared);
-    let shared = b.shared;
-    let service = b.service;
-    let channels = m.channels;
-    let data = m.data_channel;
     Module {
-        shared: shared,
-        service: service,
-        channels: tick_channels(b, due, channels),
-        data_channel: tick_data(b, data),
+        shared: b.shared,
+        service: b.service,
+        channels: tick_channels(b, due, m.channels),
+        data_channel: tick_data(b, m.data_channel),
     }
 }

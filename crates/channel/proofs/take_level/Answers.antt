@@ -23,7 +23,7 @@ returns c =
     let ch = a.ch in
     rw (
       c.input_becomes.ensures,
-      c.flag-level.ensures,
+      c.select_unpredictable-level.ensures,
       c.simulates_input.ensures,
       picked (λ (l : Bool). input_becomes l ch) (simulates_input ch) (in_flag_of ch) a.b,
       as-it-is ch,

@@ -5,7 +5,7 @@ pub returns : goal.returns
 unfolding begun_of
 returns c = simp (
   c.levels_looked_at.ensures,
-  c.count_if.ensures,
+  c.select_unpredictable.ensures,
   c.save_due.ensures,
   c.tick_service.ensures,
   c.tick_shared-after.ensures,

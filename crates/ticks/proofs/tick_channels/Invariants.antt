@@ -1,5 +1,4 @@
-use mathlib.Core.Path.{◌≡◌}
-use Prim.Native.Nat.{ℕ, ◌≤◌}
+use Rattle.std.proofs.Common.{◌≡◌, ℕ}
 use Rattle.model.specs.declared.Channel.{Channel}
 use Rattle.model.proofs.Laws.Filled.{filled, from}
 use Rattle.model.specs.Tick.{saved}
@@ -7,7 +6,4 @@ use Rattle.ticks.specs.Begun.{ticked_by}
 use Rattle.ticks.proofs.tick_channels.Given as goal
 
 abbrev pub invariant-loop-k : goal.invariant-loop-k
-invariant-loop-k l = (l.k ≤ 16) × (l.next ≡ filled (from 16 l.k) (λ (j : ℕ) (ch : Channel). saved l.due (ticked_by l.b ch)) l.initial.next l.initial.next)
-
-abbrev pub decreases-loop-k : goal.decreases-loop-k
-decreases-loop-k l = l.k
+invariant-loop-k l = l.next ≡ filled (from 16 l.k) (λ (j : ℕ) (ch : Channel). saved l.due (ticked_by l.b ch)) l.initial.next l.initial.next

@@ -11,6 +11,6 @@ returns-then-b-gt0 c = simp (
   c.out_timer_tick.ensures,
 )
 
-pub returns : goal.returns
+pub returns-else-b-gt0 : goal.returns-else-b-gt0
 unfolding data_ticked_by data_ticked data_timers_run
-returns c = simp (le-ltb 0 _ c.if-b-gt0.false, c.out_timer_tick-2.ensures, c.out_timer_tick.ensures)
+returns-else-b-gt0 c = simp (le-ltb 0 _ c.if-b-gt0.false, c.out_timer_tick-2.ensures, c.out_timer_tick.ensures)

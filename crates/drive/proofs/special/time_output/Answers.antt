@@ -7,5 +7,5 @@ use Rattle.drive.proofs.special.time_output.Goals as goal
 pub returns : goal.returns
 returns c =
     let ch = c.args.ch in
-    rw (c.flag-out.ensures, c.positive.ensures) (picked (λ (b : Bool). set_out_flag b ch) ch.flags.control
+    rw (c.select_unpredictable-next.ensures, c.positive-runs.ensures) (picked (λ (b : Bool). set_out_flag b ch) ch.flags.control
     (is_positive ch.out_timer) ch.flags.out_flag)
