@@ -23,7 +23,7 @@ pub(crate) fn hold(src: &[u8]) -> RegisterBytes
     let mut bytes = [0; WIDTH];
     bytes[..n].copy_from_slice(src);
     RegisterBytes {
-        bytes: bytes,
+        bytes,
         len: n,
     }
 }
