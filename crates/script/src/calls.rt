@@ -70,19 +70,19 @@ fn byte_digits(word: &[u8]) -> Result<&[u8], Wrong> {
 }
 
 pub(crate) fn parse_power(mut words: Words) -> Result<Line, Wrong> {
-    words.are(1)?;
+    words.exactly(1)?;
     Ok(Line::Power(byte_digits(words.word()?)?))
 }
 
 pub(crate) fn parse_store(mut words: Words) -> Result<Line, Wrong> {
-    words.are(1)?;
+    words.exactly(1)?;
     let length = parameters::decimal(words.word()?, LONGEST_STORE)?;
     Ok(Line::Store(length as usize))
 }
 
 // SWNO BYTES
 fn parse_wire(mut words: Words) -> Result<(u16, &[u8]), Wrong> {
-    words.are(2)?;
+    words.exactly(2)?;
     let swno = parameters::swno(words.word()?)?;
     Ok((swno, byte_digits(words.word()?)?))
 }
@@ -98,7 +98,7 @@ pub(crate) fn parse_write(words: Words) -> Result<Line, Wrong> {
 }
 
 pub(crate) fn parse_sample(mut words: Words) -> Result<Line, Wrong> {
-    words.are(3)?;
+    words.exactly(3)?;
     let channel = parameters::whole(words.word()?)?;
     let level = parameters::bit(words.word()?)?;
     let real = parameters::bits(words.word()?)?;
@@ -106,7 +106,7 @@ pub(crate) fn parse_sample(mut words: Words) -> Result<Line, Wrong> {
 }
 
 pub(crate) fn parse_look_up(mut words: Words) -> Result<Line, Wrong> {
-    words.are(2)?;
+    words.exactly(2)?;
     let table = parameters::whole(words.word()?)?;
     let real = parameters::bits(words.word()?)?;
     Ok(Line::LookUp(table, real))
@@ -116,11 +116,11 @@ pub(crate) fn parse_tick(mut words: Words) -> Result<Line, Wrong> {
     if words.count() == 0 {
         return Ok(Line::Tick(1));
     }
-    words.are(1)?;
+    words.exactly(1)?;
     Ok(Line::Tick(parameters::whole(words.word()?)?))
 }
 
 pub(crate) fn parse_outputs(words: Words) -> Result<Line, Wrong> {
-    words.are(0)?;
+    words.exactly(0)?;
     Ok(Line::Outputs)
 }

@@ -25,7 +25,7 @@ fn take_minute(words: &mut Words) -> Result<u16, Wrong> {
 }
 
 pub(crate) fn parse_minute<'a>(mut words: Words) -> Result<Line<'a>, Wrong> {
-    words.are(1)?;
+    words.exactly(1)?;
     Ok(Line::Minute(take_minute(&mut words)?))
 }
 

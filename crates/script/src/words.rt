@@ -31,7 +31,7 @@ impl<'a> Iterator for Words<'a> {
 
 impl<'a> Words<'a> {
     // Whether there are as many words left as a call takes.
-    pub(crate) fn are(self, many: usize) -> Result<(), Wrong> {
+    pub(crate) fn exactly(self, many: usize) -> Result<(), Wrong> {
         if self.count() != many {
             return Err(Wrong::WordCount);
         }

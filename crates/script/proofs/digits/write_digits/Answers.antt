@@ -1,19 +1,14 @@
 use native.Mathlib.Omega.{arith}
-use mathlib.Core.Path.{◌≡◌, refl, sym, ap, subst, ◌∙◌}
-use mathlib.Core.List.{List, [], ◌∷◌, ◌++◌, append-nil}
+use native.Mathlib.Nat.{not-suc-le-zero}
+use native.Mathlib.Numerals.{add-one, sub-one}
+use mathlib.Core.Path.{◌≡◌, sym, ap, subst, ◌∙◌}
+use mathlib.Core.List.{List, ◌∷◌, ◌++◌, append-nil}
 use Prim.Native.Nat.{ℕ, zero, suc, ◌+◌, ◌-◌, ◌/◌, ◌%◌, ◌≤◌, ◌<◌}
-use lib.ListN.{length, take, drop, set, length-set}
+use lib.ListN.{length, take, drop, set}
 use lib.Seq.{slice, slice_empty, length-take-le, take-set-lt, append_snoc}
-use native.Mathlib.Nat.{le_refl, le_of_suc-le-suc, not-suc-le-zero}
-use native.Mathlib.Numerals.{sub-one}
+use Rattle.std.proofs.lemmas.List.{drop-set}
 use Rattle.script.specs.Digits.{last_digits}
 use Rattle.script.proofs.digits.write_digits.Goals as goal
-
--- after a store at j, the list from j on begins with what was stored
-drop-set : (t : List ℕ) (j g : ℕ) → j < length t → drop j (set t j g) ≡ g ∷ drop (suc j) t
-drop-set [] j g h = absurd (not-suc-le-zero h)
-drop-set (x ∷ xs) zero g h = refl
-drop-set (x ∷ xs) (suc j) g h = drop-set xs j g (le_of_suc-le-suc h)
 
 -- a turn moves the last of the digits that are still to write to the front of those that are written
 digits_step : (i k rest g : ℕ) (out : List ℕ) → 0 < i → i ≤ k → k ≤ length out → g ≡ 48 + rest % 10
@@ -26,6 +21,7 @@ digits_step (suc j) k rest g out some h room e =
     ap (λ (m : ℕ). last_digits m (rest / 10) ++ slice m k (set out m g)) (sub-one (suc j))
     ∙ ap (λ (l : List ℕ). before ++ drop j l) (take-set-lt k out j g h)
     ∙ ap (λ (l : List ℕ). before ++ l) (drop-set (take k out) j g within)
+    ∙ ap (λ (m : ℕ). before ++ g ∷ drop m (take k out)) (add-one j)
     ∙ ap (λ (x : ℕ). before ++ x ∷ done) e
     ∙ sym (append_snoc before (48 + rest % 10) done)
 
@@ -33,13 +29,9 @@ pub loop-i-init : goal.loop-i-init
 loop-i-init c =
     let a = c.args in
     let all = last_digits a.k a.n in
-    (refl, le_refl a.k, ap (λ (l : List ℕ). all ++ l) (slice_empty a.k a.out.now) ∙ append-nil all)
+    ap (λ (l : List ℕ). all ++ l) (slice_empty a.k a.out.now) ∙ append-nil all
 
 pub loop-i-preserved : goal.loop-i-preserved
 loop-i-preserved c =
     let l = c.loop-i in
-    let a = c.args in (
-      simp length-set l.invariant.0,
-      omega arith,
-      digits_step l.i a.k l.rest c.character.result l.out c.loop-i-test.true l.invariant.1 (omega arith) c.character.ensures ∙ l.invariant.2,
-    )
+    digits_step l.i c.args.k l.rest c.character.result l.out c.loop-i-test.true l.auto.i (omega arith) c.character.ensures ∙ l.invariant
