@@ -106,8 +106,8 @@ fn step(kind: u8, word: Word) -> Result<[u8; 4], NoAnswer> {
     Ok(bytes::bytes_of_i32(n))
 }
 
-// By the kind's two letters, which are matched where they choose: an enum would be a second list of the same kinds. A kind
-// of two bytes is a number of 16 bits, in 32.
+// By the kind's two letters, which are matched where they choose: an enum would be a second list of the same kinds.
+// A kind of two bytes is a number of 16 bits, in 32.
 pub fn convert(kind: [u8; 2], word: Word) -> Result<[u8; 4], NoAnswer> {
     let [first, second] = kind;
     match first {

@@ -10,8 +10,8 @@ mod reply;
 use std::io;
 use std::io::Read;
 
-// Reads until the line is full or the input ends, and answers how many bytes it put at the line's start: `read_exact` would
-// not say how many.
+// Reads until the line is full or the input ends, and answers how many bytes it put at the line's start, which
+// `read_exact` would not say.
 fn read_full(input: &mut impl Read, line: &mut [u8; 12]) -> io::Result<usize>
     ensures { IfOk result (λ n. n ≤ length line.new) }
 {

@@ -2,6 +2,7 @@
 use crate::convert::{NoAnswer, Word, convert};
 use std::io;
 
+// Letters are small alone: `to_digit` would take capitals too.
 fn digit(b: u8) -> Option<u32> {
     match b {
         b'0'..=b'9' => Some((b - b'0') as u32),
