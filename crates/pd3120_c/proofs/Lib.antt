@@ -1,3 +1,3 @@
--- That a code's parts are found again, and laws of the answers that are packed.
+-- That a code's parts are found again, and laws of lengths and of the loops.
 pub mod Laws
 pub mod Unpacked

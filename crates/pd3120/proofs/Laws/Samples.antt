@@ -9,7 +9,6 @@ use lib.ListN.{get_or, set}
 use lib.Seq.{set-get_or}
 use Rattle.model.specs.declared.Channel.{Channel}
 use Rattle.model.specs.declared.Module.{Module}
-use Rattle.model.specs.declared.Outcome.{Outcome}
 use Rattle.model.specs.declared.Refusal.{Refusal}
 use Rattle.model.specs.Questions.{Reply}
 use Rattle.model.specs.State.{nothing, channel_at, with_channels}
@@ -18,8 +17,6 @@ use Rattle.model.specs.Questions.{sample_reply, windows_reply}
 use Rattle.model.specs.Calls.{Stepped, answer_of, sampled_as}
 use Rattle.registers.specs.Places.{slot_of}
 use Rattle.questions.proofs.Laws.Answers.{yes}
-use Rattle.pd3120.specs.declared.Answered.{Answered}
-use Rattle.pd3120.specs.Answers.{step_of, sample_of, plain_of}
 
 -- an accepted sample is for channel 1 to 16, and so are accepted windows
 pub is-digital : (k : ℕ) (x : Float) (n : ℕ) → sample_reply k x ≡ Ok n → is_digital k ≡ true
@@ -46,8 +43,3 @@ done r q n k f ch left e d h g m p =
 pub refused : (r q : Reply) (w : Refusal) (k : ℕ) (ch x : Channel) → r ≡ q → r ≡ Err w
     → (m : Module) → get_or m.channels (slot_of k) nothing ≡ ch → put_back r ch k m ≡ sampled_as q k x m
 refused r q w k ch x e d m p = rw (← e, d, ← p, set-get_or m.channels (slot_of k) nothing)
-
--- a sample or a tick among all calls answers no bits
-pub plain-answer : (x : Stepped) (s : Outcome Module) (a : Answered) → sample_of s ≡ x
-    → a ≡ plain_of s → step_of a [] ≡ x
-plain-answer x s a e f = ap (λ (r : Answered). step_of r []) f ∙ e

@@ -10,9 +10,3 @@ pub pack-requires : goal.pack-requires
 pack-requires c =
     let m = c.args.m.now in
     plain-length _ _ _ _ (c.set_windows-taken.ensures m (ap (λ (i : ℕ). get_or m.channels i nothing) (sym c.slot-at.ensures.0)))
-
-pub returns : goal.returns
-returns c =
-    let m = c.args.m.now in
-    let at = c.slot-at.ensures.0 in
-    rw at (left _ _ _ _ (c.set_windows-taken.ensures m (ap (λ (i : ℕ). get_or m.channels i nothing) (sym at))) c.pack.ensures)
