@@ -17,7 +17,7 @@ returns c =
       c.weigh-2.ensures,
       c.weigh.ensures,
       c.enables_underload.ensures,
-      c.negative-passed.ensures,
+      c.negative.ensures,
       c.below_minimum.ensures,
       c.simulates_input-wired.ensures,
     )
