@@ -50,14 +50,7 @@ unfolding cleared bytes_read digital_bytes signed_bytes bytes_of
 counter-read m k d fits =
     ap (λ (s : Stepped). signed_number s.answer.buffer) (wire-read m k d) ∙ come-back.signed_numbers w32 4 refl (channel_at m k).counter fits
 
--- four bytes, one by one
-pub four_bytes : (bs : List ℕ) → length bs ≡ 4 → get_or bs 0 0 ∷ get_or bs 1 0 ∷ get_or bs 2 0 ∷ get_or bs 3 0 ∷ [] ≡ bs
-four_bytes (a ∷ b ∷ c ∷ d ∷ []) e = refl
-four_bytes [] e = absurd (omega (arith, e))
-four_bytes (a ∷ []) e = absurd (omega (arith, e))
-four_bytes (a ∷ b ∷ []) e = absurd (omega (arith, e))
-four_bytes (a ∷ b ∷ c ∷ []) e = absurd (omega (arith, e))
-four_bytes (a ∷ b ∷ c ∷ d ∷ x ∷ xs) e = absurd (omega (arith, e))
+
 
 -- no refusal has the number of what is done
 pub never_done : (r : Refusal) → refusal_number r ≡ 0 → ⊥

@@ -13,7 +13,7 @@ use borrow.Author.Rules.{rules}
 use borrow.Author.Tests.{le-leb, lt-leb}
 use Rattle.charge.specs.Readings.{read_as, reading}
 use Rattle.charge.proofs.Laws.Held.{counter-held}
-use Rattle.charge.proofs.Laws.Readings.{wire-read, counter-read, four_bytes, never_done}
+use Rattle.charge.proofs.Laws.Readings.{wire-read, counter-read, never_done}
 use Rattle.charge.proofs.readings.read_counter.Goals.{then-channel-lt1-via-then-channel-lt1, then-channel-lt1-via-else-channel-lt1+then-channel-gt16, in-Ok, in-Err}
 use Rattle.charge.proofs.readings.read_counter.Goals as goal
 
@@ -38,11 +38,9 @@ returns c =
     let r = c.read-done in
     elim c.match-done.branch [
       | in-Ok w ↦
-          let bytes = r.new.buf in
-          let four : length bytes ≡ 4 = search rules in
           let counter = w.i32_of_bytes in
           let count : to_z w32 (of_z w32 counter.result) ≡ (channel_at m k).counter
-          = to_z-of_z w32 _ (record { sfits = counter.type_inv }) ∙ counter.ensures ∙ ap signed_number (four_bytes bytes four)
+          = to_z-of_z w32 _ (record { sfits = counter.type_inv }) ∙ counter.ensures
           ∙ ap (λ (s : Stepped). signed_number s.answer.buffer) r.ensures
           ∙ counter-read m k digital (counter-held m.channels _ (k - 1) start.well_formed.0.1.1.1.1.0.1.1) in
           rw (digital, w.counter-is, count) (rw w.in-Ok.is at (ap (λ (s : Stepped). read_as s (channel_at m k).counter) r.ensures))
