@@ -245,7 +245,8 @@ pub fn set_minute(m: Module, of_week: u16) -> Outcome<Module>
 }
 
 // A channel's windows, given whole; an empty slice takes them away. Each is one number, its start
-// times 65536 plus its end.
+// times 65536 plus its end. The steps around the call are those of `sample`: a function of a closure for
+// both would be as long as the two, and need a contract of its own.
 pub fn set_windows(m: Module, channel: u8, given: &[u32]) -> Outcome<Module>
     ensures { sample_of result ≡ step m (windows channel given.now) }
 {

@@ -111,7 +111,8 @@ pub extern "C" fn pd3120_look_up(m: &Module, table: u8, x: f32) -> u64
 }
 
 // From channel 16 to 1, since the terminal board latches 16 first. The save is a loop of its own, so
-// that the ticks without it, all but one in ten hours, do not touch the kept values.
+// that the ticks without it, all but one in ten hours, do not touch the kept values. By index: after
+// `for ch in m.channels.iter_mut().rev()` a proof knows how many channels there are, and none of them.
 #[unsafe(no_mangle)]
 pub extern "C" fn pd3120_tick(m: &mut Module)
     ensures { Ticked m.old m.new }

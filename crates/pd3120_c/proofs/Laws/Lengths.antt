@@ -1,29 +1,21 @@
 -- No answer is longer than an image: a reply's length is at most that of what would be done, whatever is asked first. Assumes nothing.
 use Rattle.std.specs.Prelude.{Ok, Err}
-use mathlib.Core.Path.{◌≡◌, refl, sym, ap, subst, ◌∙◌}
+use mathlib.Core.Path.{◌≡◌, sym, ap, subst}
 use mathlib.Core.Bool.{Bool, true, false, cond}
 use mathlib.Core.List.{List, [], ◌∷◌}
-use Prim.Native.Nat.{ℕ, ◌/◌, ◌≤◌}
+use Prim.Native.Nat.{ℕ, ◌≤◌}
 use native.Mathlib.Omega.{arith}
-use lib.Ieee.{Float}
-use lib.IntN.{pos}
-use lib.ListN.{replicate, length-replicate, get_or-replicate}
-use Rattle.counts.specs.Counts.{timer}
-use Rattle.model.specs.declared.Channel.{Channel}
 use Rattle.model.specs.declared.Module.{Module}
 use Rattle.model.specs.declared.DataRegister.{DataRegister}
 use Rattle.model.specs.declared.DataRegister.TheVariants.{RealA, RealB, TimerA, TimerB, LookUp1, LookUp2}
 use Rattle.model.specs.declared.Refusal.{Refusal}
 use Rattle.model.specs.Questions.{Reply}
-use Rattle.model.specs.declared.Service.{Service}
-use Rattle.model.specs.declared.Shared.{Shared}
-use Rattle.model.specs.State.{config, write_enable_of, service_of, module_of, nothing}
+use Rattle.model.specs.State.{write_enable_of}
 use Rattle.model.specs.Registers.{Place, service, digital, common, data_channel, unlisted, data_row, place, size}
 use Rattle.model.specs.Questions.{Question, asked, length_of, read_reply, write_reply, sample_reply, look_up_reply, minute_reply, windows_reply, power_up_reply, store_reply}
 use Rattle.model.specs.Questions.{read_questions, write_questions, sample_questions, look_up_questions, minute_questions, windows_questions, power_up_questions}
 use Rattle.model.specs.Questions.{store_questions}
-use Rattle.model.specs.Image.{image_size, kept_from}
-use Rattle.model.specs.Restored.{no_service_bits, restored_shared, restored_data}
+use Rattle.model.specs.Image.{image_size}
 use Rattle.model.specs.Calls.{Request, read, write, sample, look_up, minute, windows, tick, Answer, answer_of, Stepped, step, power_up_answer, store_answer}
 use Rattle.reads.proofs.Laws.Held.{service-fits, digital-fits, common-fits}
 

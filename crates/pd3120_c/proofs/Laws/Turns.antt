@@ -4,12 +4,10 @@ use mathlib.Core.Bool.{Bool, true, false, cond}
 use mathlib.Core.List.{List, [], ◌∷◌, map}
 use Prim.Native.Nat.{ℕ, suc, ◌/◌, ◌<◌, ◌≤◌}
 use native.Mathlib.Omega.{arith}
-use lib.ListN.{length, length-map, length-set, get_or, set}
+use lib.ListN.{length, length-map, get_or, set}
 use Rattle.model.specs.declared.Channel.{Channel}
 use Rattle.model.specs.declared.DataChannel.{DataChannel}
 use Rattle.model.specs.declared.Module.{Module}
-use Rattle.model.specs.declared.Service.{Service}
-use Rattle.model.specs.declared.Shared.{Shared}
 use Rattle.model.specs.State.{nothing, with_channels}
 use Rattle.model.specs.Errors.{data_error_of, general_error_of}
 use Rattle.model.specs.Questions.{length_of}

@@ -1,9 +1,3 @@
-use borrow.Author.Rules.{rules}
-use mathlib.Core.Path.{◌≡◌, refl, sym, ap}
-use Prim.Native.Nat.{ℕ}
-use lib.ListN.{length, get_or}
-use Rattle.model.specs.State.{nothing}
-use Rattle.pd3120_c.proofs.Laws.Answers.{left-lent}
 use Rattle.pd3120_c.proofs.Laws.Lengths.{read_length}
 use Rattle.pd3120_c.proofs.pd3120_read.Goals as goal
 

@@ -1,5 +1,4 @@
 use mathlib.Core.Path.{refl}
-use Rattle.pd3120_c.proofs.Laws.Answers.{left}
 use Rattle.pd3120_c.proofs.Laws.Lengths.{plain-length}
 use Rattle.pd3120_c.proofs.pd3120_set_minute.Goals as goal
 

@@ -2,7 +2,6 @@ use mathlib.Core.Path.{sym, ap}
 use Prim.Native.Nat.{ℕ}
 use lib.ListN.{get_or}
 use Rattle.model.specs.State.{nothing}
-use Rattle.pd3120_c.proofs.Laws.Answers.{left}
 use Rattle.pd3120_c.proofs.Laws.Lengths.{plain-length}
 use Rattle.pd3120_c.proofs.pd3120_set_windows.Goals as goal
 

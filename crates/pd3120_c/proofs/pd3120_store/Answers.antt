@@ -1,6 +1,3 @@
-use mathlib.Core.Path.{ap, ◌∙◌}
-use Rattle.model.specs.Calls.{Answer}
-use Rattle.pd3120_c.specs.Codes.{answer_code}
 use Rattle.pd3120_c.proofs.Laws.Lengths.{store_length}
 use Rattle.pd3120_c.proofs.pd3120_store.Goals as goal
 
