@@ -40,9 +40,9 @@ pub fn put_two(a: [u8; 4], b: [u8; 4], buf: &mut [u8], at: usize)
 }
 
 // The pairs of a level table, X before Y.
-pub fn put_pairs(pairs: [Pair; 10], buf: &mut [u8], at: usize)
+pub fn put_pairs(pairs: &[Pair; 10], buf: &mut [u8], at: usize)
     requires { at + table_size ≤ length buf.old }
-    ensures { (buf.new ≡ pasted buf.old at (pairs_bytes pairs)) × (length (pairs_bytes pairs) ≡ table_size) }
+    ensures { (buf.new ≡ pasted buf.old at (pairs_bytes pairs.now)) × (length (pairs_bytes pairs.now) ≡ table_size) }
 {
     for (k, p) in pairs.iter().enumerate() {
         let x = reals::bytes_of(p.x);

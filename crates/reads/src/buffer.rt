@@ -15,17 +15,13 @@ pub struct RegisterBytes {
     pub len: usize,
 }
 
-pub(crate) fn hold(src: &[u8]) -> RegisterBytes
-    requires { length src.now ≤ width }
-    ensures { result ≡ held src.now }
+pub(crate) fn hold<const N: usize>(src: [u8; N]) -> RegisterBytes
+    requires { N ≤ width }
+    ensures { result ≡ held src.entry }
 {
-    let n = src.len();
     let mut bytes = [0; WIDTH];
-    bytes[..n].copy_from_slice(src);
-    RegisterBytes {
-        bytes,
-        len: n,
-    }
+    bytes[..N].copy_from_slice(&src);
+    RegisterBytes { bytes, len: N }
 }
 
 // Bytes of the buffer past the register's are unchanged.

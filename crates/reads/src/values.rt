@@ -16,19 +16,19 @@ use numbers::{reals, times};
 pub(crate) fn truth(b: bool) -> RegisterBytes
     ensures { result ≡ held (bit_value b ∷ []) }
 {
-    hold(&[bits::bit(b)])
+    hold([bits::bit(b)])
 }
 
 pub(crate) fn signed(z: i32) -> RegisterBytes
     ensures { result ≡ held (signed_bytes 4 z) }
 {
-    hold(&bytes::bytes_of_i32(z))
+    hold(bytes::bytes_of_i32(z))
 }
 
 pub(crate) fn real(x: f32) -> RegisterBytes
     ensures { result ≡ held (real_bytes x) }
 {
-    hold(&reals::bytes_of(x))
+    hold(reals::bytes_of(x))
 }
 
 pub(crate) fn timer(t: TimerCount) -> RegisterBytes
@@ -46,5 +46,5 @@ pub(crate) fn operating(t: OperatingCount) -> RegisterBytes
 pub(crate) fn word(w: u16) -> RegisterBytes
     ensures { result ≡ held (bytes_of 2 w) }
 {
-    hold(&bytes::bytes_of_u16(w))
+    hold(bytes::bytes_of_u16(w))
 }

@@ -28,8 +28,8 @@ loop-k-preserved c =
     let k = l.loop-k.k in
     let d = s.args.buf.now in
     let at = s.args.at in
-    let ps = s.args.pairs in
-    let n : length ps ≡ 10 = search (rules, s.well_formed.0.0) in
+    let ps = s.args.pairs.now in
+    let n : length ps ≡ 10 = search rules in
     let low = c.loop-k-test.true in
     let x = c.bytes_of-x in
     let y = c.bytes_of-y in
@@ -48,8 +48,8 @@ pub returns : goal.returns
 returns c =
     let s = c in
     let l = c.loop-k in
-    let ps = s.args.pairs in
-    let n : length ps ≡ 10 = search (rules, s.well_formed.0.0) in
+    let ps = s.args.pairs.now in
+    let n : length ps ≡ 10 = search rules in
     let e : l.k ≡ 10 = omega arith in
     let all : pairs_bytes (take l.k ps) ≡ pairs_bytes ps = ap pairs_bytes (take_all l.k ps (omega (arith, n))) in
     pasted-as s.args.buf.now s.args.at all (l.invariant.1, l.invariant.3 ∙ omega arith)

@@ -8,9 +8,9 @@ use Rattle.buffers.proofs.put_pairs.Given as goal
 abbrev pub invariant-loop-k : goal.invariant-loop-k
 invariant-loop-k l =
     (l.k ≤ 10)
-    × (l.buf ≡ pasted l.initial.buf l.at (pairs_bytes (take l.k l.fn.pairs)))
+    × (l.buf ≡ pasted l.initial.buf l.at (pairs_bytes (take l.k l.pairs)))
     × (length l.buf ≡ length l.initial.buf)
-    × (length (pairs_bytes (take l.k l.fn.pairs)) ≡ 8 * l.k)
+    × (length (pairs_bytes (take l.k l.pairs)) ≡ 8 * l.k)
 
 abbrev pub decreases-loop-k : goal.decreases-loop-k
 decreases-loop-k l = 10 - l.k

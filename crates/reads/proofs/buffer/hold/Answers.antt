@@ -1,8 +1,10 @@
-use Rattle.std.proofs.Common.{length, ℕ}
+use Rattle.std.proofs.Common.{rules, ◌≡◌, ℕ, length}
 use Rattle.std.proofs.lemmas.List.{drop-replicate}
 use Rattle.reads.specs.Held.{width, held}
 use Rattle.reads.proofs.buffer.hold.Goals as goal
 
 pub returns : goal.returns
 unfolding held
-returns c = rw (c.copy_from_slice.ensures.after, drop-replicate {X = ℕ} (length c.args.src.now) width 0)
+returns g c =
+    let n : length c.args.src ≡ g.row.N = search rules in
+    rw (c.copy_from_slice.ensures.after, n, drop-replicate {X = ℕ} g.row.N width 0)
