@@ -77,6 +77,7 @@ pub fn has_reference(ch: Channel) -> bool
     is_set(ref_a(ch)) | is_set(ref_b(ch))
 }
 
+// The four bits of Enablebit that act, each by the paper's name for it (specs/Settings).
 pub fn simulates_input(ch: Channel) -> bool
     ensures { result ≡ simulates_input ch }
 {
