@@ -85,6 +85,7 @@ fn enables(k: usize, ch: Channel) -> bool
     bit_of(u16::from(ch.config.enablebit), k)
 }
 
+// The four bits of Enablebit that act, each by the paper's name for it (specs/Settings).
 pub fn simulates_input(ch: Channel) -> bool
     ensures { result ≡ simulates_input ch }
 {
