@@ -1,4 +1,5 @@
-// Bytes put into a lent buffer, from a place on.
+// Bytes put into a lent buffer, from a place on. The place stands beside the buffer, since `pasted`
+// speaks of the whole buffer, and `&mut buf[at..at + n]` at each call would say each size once more.
 #![tactic(auto)]
 
 ghost use Rattle.std.specs.Prelude.{◌≡◌, ◌++◌, ◌+◌, ◌≤◌, length};

@@ -15,7 +15,7 @@ fn put_timer(t: TimerCount, buf: &mut [u8])
     requires { 4 ≤ length buf.old }
     ensures { buf.new ≡ overwritten (timer_bytes t) buf.old }
 {
-    buffers::put_array(reals::bytes_of(times::timer_real(t)), buf, 0);
+    put_real(times::timer_real(t), buf);
 }
 
 fn put_real(x: f32, buf: &mut [u8])

@@ -1,13 +1,7 @@
-use mathlib.Core.Path.{ap, ◌∙◌}
-use mathlib.Core.List.{List}
-use Prim.Native.Nat.{ℕ}
+use Rattle.std.proofs.Common.{ap, ◌∙◌, Float}
 use Rattle.model.specs.Calls.{overwritten}
-use Rattle.buffers.proofs.Laws.Paste.{pasted-start}
 use Rattle.numbers.specs.Reals.{real_bytes}
 use Rattle.reads.proofs.data.put_timer.Goals as goal
 
 pub returns : goal.returns
-returns c =
-    let s = c.args in
-    let bytes = c.bytes_of.ensures ∙ ap real_bytes c.timer_real.ensures in
-    c.put_array.ensures.0 ∙ pasted-start s.buf.now _ ∙ ap (λ (b : List ℕ). overwritten b s.buf.now) bytes
+returns c = c.put_real.ensures ∙ ap (λ (x : Float). overwritten (real_bytes x) c.args.buf.now) c.timer_real.ensures
