@@ -139,10 +139,10 @@ pub fn begin(s: Shared, v: Service, ch: Channel, swno: u16, b: &[u8]) -> Begun
     let mut channel = ch;
     let rest = begin_in_place(&mut shared, &mut service, &mut channel, swno, b);
     Begun {
-        shared: shared,
-        service: service,
-        channel: channel,
-        rest: rest,
+        shared,
+        service,
+        channel,
+        rest,
     }
 }
 
@@ -244,7 +244,7 @@ pub fn write(m: Module, swno: u16, b: &[u8]) -> Outcome<Module>
         data_channel: data_after(shared, data, swno, b),
     };
     Outcome {
-        after: after,
+        after,
         reply: rest.reply,
     }
 }
