@@ -47,10 +47,7 @@ pub fn power_up(img: &[u8]) -> Outcome<Module>
 {
     let mut after = decode::blank();
     let reply = power_up_in_place(&mut after, img);
-    Outcome {
-        after: after,
-        reply: reply,
-    }
+    Outcome { after, reply }
 }
 
 // Writes the image of the kept values over the first bytes of buf.

@@ -167,10 +167,10 @@ pub fn begin_write(s: Shared, v: Service, ch: Channel, swno: u16, bytes: &[u8]) 
     let mut channel = ch;
     let rest = begin_write_in_place(&mut shared, &mut service, &mut channel, swno, bytes);
     Begun {
-        shared: shared,
-        service: service,
-        channel: channel,
-        rest: rest,
+        shared,
+        service,
+        channel,
+        rest,
     }
 }
 
@@ -205,7 +205,7 @@ pub fn write(m: Module, swno: u16, bytes: &[u8]) -> Answered
     Answered {
         after: next,
         reply: done.reply,
-        bits: bits,
+        bits,
         real_bits: 0,
     }
 }

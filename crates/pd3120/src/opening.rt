@@ -24,10 +24,7 @@ pub fn set_minute(s: Shared, minute: u16) -> Outcome<Shared>
         Ok(_) => with_minute(s, minute),
         Err(_) => s,
     };
-    Outcome {
-        after: after,
-        reply: reply,
-    }
+    Outcome { after, reply }
 }
 
 fn with_windows(ch: Channel, windows: &[u32]) -> Channel
@@ -48,8 +45,5 @@ pub fn set_windows(ch: Channel, channel: u8, windows: &[u32]) -> Outcome<Channel
         Ok(_) => with_windows(ch, windows),
         Err(_) => ch,
     };
-    Outcome {
-        after: after,
-        reply: reply,
-    }
+    Outcome { after, reply }
 }

@@ -23,8 +23,5 @@ pub fn take(s: Shared, ch: Channel, channel: u8, level: bool, amperes: f32) -> O
         Ok(_) => channel::take_sample(s, level, amperes, ch),
         Err(_) => ch,
     };
-    Outcome {
-        after: after,
-        reply: reply,
-    }
+    Outcome { after, reply }
 }

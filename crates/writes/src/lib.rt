@@ -144,7 +144,7 @@ pub fn write(m: Module, swno: u16, b: &[u8]) -> Outcome<Module>
         data_channel: data_after(m.shared, m.data_channel, swno, b),
     };
     Outcome {
-        after: after,
+        after,
         reply: rest.reply,
     }
 }
