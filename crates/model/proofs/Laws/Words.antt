@@ -2,14 +2,12 @@
 use mathlib.Core.Path.{◌≡◌}
 use mathlib.Core.Bool.{Bool, true, false}
 use mathlib.Core.List.{List, [], ◌∷◌, ◌++◌, map}
-use Prim.Native.Nat.{ℕ, suc, ◌+◌, ◌-◌, ◌*◌, ◌^◌, ◌<◌, ◌≤◌}
+use Prim.Native.Nat.{ℕ, ◌+◌, ◌^◌, ◌<◌, ◌≤◌}
 use native.Mathlib.Nat.{pow-suc, lt_of_lt_of_le}
 use native.Mathlib.Omega.{arith}
-use lib.ListN.{length, get_or, drop, drop_of_length-le, length-append, length-drop, length-map}
+use lib.ListN.{length, drop, length-append, length-drop, length-map}
 use lib.Pow.{pow_mono}
-use lib.Seq.{drop-cons}
 use Rattle.model.specs.declared.Channel.{Channel}
-use Rattle.model.specs.State.{nothing}
 use Rattle.std.specs.List.{push}
 use Rattle.model.specs.Errors.{bit_value, word_of}
 
@@ -17,9 +15,6 @@ use Rattle.model.specs.Errors.{bit_value, word_of}
 pub bit-room : (n : ℕ) (b : Bool) → n ≡ bit_value b → n ≤ 1
 bit-room n true e = omega (arith, e)
 bit-room n false e = omega (arith, e)
-
-word-step : (k : ℕ) (bits : List Bool) → k < length bits → word_of (drop (suc k) bits) * 2 + bit_value (get_or bits k false) ≡ word_of (drop k bits)
-word-step k bits h = rw (drop-cons bits k false) (omega arith)
 
 word_below : (xs : List Bool) → word_of xs < 2 ^ length xs
 word_below [] = omega arith
