@@ -58,11 +58,11 @@ fn entry_allowed(s: &[u8; sizes::ENTRY]) -> bool
 }
 
 fn entries_allowed(s: &[u8]) -> bool
-    requires { length s.now ≡ 16 * entry_size }
+    requires { 16 * entry_size ≤ length s.now }
     ensures { result ≡ entries_allowed 16 s.now }
 {
     let (entries, _) = s.as_chunks::<{ sizes::ENTRY }>();
-    entries.iter().all(|e| entry_allowed(e))
+    entries[..sizes::CHANNELS].iter().all(|e| entry_allowed(e))
 }
 
 // RealA, RealB and both tables.

@@ -8,11 +8,12 @@ use Rattle.model.proofs.Images.Sequence.{entries-count}
 use Rattle.image.proofs.decode.put_channels.Goals as goal
 
 -- entry k of the row, from its own 44 bytes
-entry_of_chunk : (n : ℕ) (l : List ℕ) (k : ℕ) → k < n → entry_from (get_or (first_chunks 44 n l) k []) ≡ get_or (entries_from n l) k (entry_from [])
+entry_of_chunk : (n m : ℕ) (l : List ℕ) (k : ℕ) → k < n → k < m → entry_from (get_or (first_chunks 44 m l) k []) ≡ get_or (entries_from n l) k (entry_from [])
 unfolding entries_from
-entry_of_chunk zero l k h = absurd (omega arith)
-entry_of_chunk (suc n) l zero h = refl
-entry_of_chunk (suc n) l (suc k) h = entry_of_chunk n (drop 44 l) k (omega arith)
+entry_of_chunk zero m l k h g = absurd (omega arith)
+entry_of_chunk (suc n) zero l k h g = absurd (omega arith)
+entry_of_chunk (suc n) (suc m) l zero h g = refl
+entry_of_chunk (suc n) (suc m) l (suc k) h g = entry_of_chunk n m (drop 44 l) k (omega arith) (omega arith)
 
 pub loop-k-init : goal.loop-k-init
 loop-k-init c = sym (none (λ (j : ℕ). restored) (below 0) (entries_from 16 c.args.s.now) _ (λ j h. below_none j))
@@ -24,9 +25,9 @@ loop-k-preserved c =
     let es = entries_from 16 l in
     let low : k < 16 = omega arith in
     let n : k < length es = rw (entries-count 16 l) low in
-    let chunks : c.as_chunks.result.0.now ≡ first_chunks 44 16 l = c.as_chunks.ensures.front ∙ rw c.requires.0 refl in
     let ch : c.channel_of.result ≡ restored (get_or es k (entry_from [])) =
-    c.channel_of.ensures ∙ ap (λ (rows : List (List ℕ)). restored (entry_from (get_or rows k []))) chunks ∙ ap restored (entry_of_chunk 16 l k low) in
+    c.channel_of.ensures ∙ ap (λ (rows : List (List ℕ)). restored (entry_from (get_or rows k []))) c.as_chunks.ensures.front
+    ∙ ap restored (entry_of_chunk 16 _ l k low (omega (arith, c.requires.0))) in
     rw (ch, c.loop-k.invariant, add-one) (one_more (λ (j : ℕ). restored) (below k) (below (suc k)) k es _ (entry_from []) n (omega arith) (up k))
 
 pub returns : goal.returns
