@@ -30,6 +30,7 @@ pub struct Operating {
 const TICK: i32 = 8;
 
 impl TimerCount {
+    // `signed::wrapping_*` here and below, and not std's: their contracts speak of `wrapped`.
     #[tactic(auto, unfolding(crate::specs::Counts::free_run_tick))]
     pub fn free_run_tick(self) -> TimerCount
         ensures { result ≡ free_run_tick self }
@@ -85,14 +86,15 @@ impl OperatingCount {
     }
 }
 
-// A quarter more. A number above 3 acts as 0.
+// A quarter more. A number above 3 acts as 0, so no `(q + 1) % 4`.
 fn more(q: u8) -> u8
     ensures { result ≡ cond (ltb q 3) (q + 1) (cond (eqb q 3) 0 1) }
 {
-    if q < 3 {
-        return q + 1;
+    match q {
+        0..=2 => q + 1,
+        3 => 0,
+        _ => 1,
     }
-    if q == 3 { 0 } else { 1 }
 }
 
 impl Operating {
