@@ -44,7 +44,7 @@ pub struct AnyErrors {
     pub act: bool,
 }
 
-// For a call that shows no word: the error bytes alone.
+// A call that shows no word reads the error bytes alone.
 pub fn any_errors(channels: [Channel; 16]) -> AnyErrors
     ensures { result ≡ any_of channels }
 {

@@ -2,6 +2,8 @@
 // The length of the bytes is asked before. Each contract says it, and none takes an array: a caller
 // holds a register's bytes as a slice that is as long as its row says, and std makes an array of a
 // slice only with a case for every other length, which would be a refusal that no document has.
+// README and docs/RULES.md name these functions, so that no parameter may be narrower either.
+// Each number has a line over `array_from`: a trait of what has bytes would need a law for each.
 #![tactic(auto)]
 
 ghost use Rattle.std.specs.Prelude.{◌≡◌, length};

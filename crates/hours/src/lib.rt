@@ -2,21 +2,21 @@
 // windows that a call gives.
 #![tactic(auto)]
 
-ghost use Rattle.std.specs.Prelude.{◌≡◌, ◌≤◌, length, take};
+ghost use Rattle.std.specs.Prelude.{◌≡◌, length};
 ghost use Rattle.model.specs.Hours.{unset_clock, clock_at, clock_ticked, no_windows, window_of, timetable_of, time_of, within, opens, any_opens, closed};
 
 use model::{Clock, Timetable, Window};
 
-// Out of its range, so that it acts as unset.
-const UNSET: u16 = 10080;
+// The week's last minute.
+pub const LAST_MINUTE: u16 = 10079;
+
+// A number out of its range, and no Option: C gives a clock's layout (`repr(C)`, include/pd3120.h).
+const UNSET: u16 = LAST_MINUTE + 1;
 
 pub fn unset() -> Clock
     ensures { result ≡ unset_clock }
 {
-    Clock {
-        minute: UNSET,
-        ticks: 0,
-    }
+    set_to(UNSET)
 }
 
 // Each setting starts the count of ticks anew.
@@ -31,22 +31,20 @@ pub fn set_to(minute: u16) -> Clock
 pub fn tick(clock: Clock) -> Clock
     ensures { result ≡ clock_ticked clock }
 {
-    let minute = clock.minute;
-    let ticks = clock.ticks;
-    if 10079 < minute {
+    if LAST_MINUTE < clock.minute {
         return clock;
     }
-    if 1919 < ticks {
-        return Clock { minute, ticks: 1 };
+    if 1919 < clock.ticks {
+        return Clock { ticks: 1, ..clock };
     }
-    if ticks < 1919 {
+    if clock.ticks < 1919 {
         return Clock {
-            minute,
-            ticks: ticks + 1,
+            ticks: clock.ticks + 1,
+            ..clock
         };
     }
-    if minute < 10079 {
-        return set_to(minute + 1);
+    if clock.minute < LAST_MINUTE {
+        return set_to(clock.minute + 1);
     }
     set_to(0)
 }
@@ -55,7 +53,7 @@ pub fn tick(clock: Clock) -> Clock
 fn time_of(n: u16) -> u16
     ensures { result ≡ time_of n }
 {
-    if n <= 10079 { n } else { 0 }
+    if n <= LAST_MINUTE { n } else { 0 }
 }
 
 fn within(start: u16, end: u16, now: u16) -> bool
@@ -73,30 +71,23 @@ fn opens(now: u16, w: Window) -> bool
     within(time_of(w.start), time_of(w.end), now)
 }
 
-fn any_opens(now: u16, count: usize, windows: [Window; 8]) -> bool
-    requires { count ≤ 8 }
-    ensures { result ≡ any_opens now (take count windows) }
+fn any_opens(now: u16, windows: &[Window]) -> bool
+    ensures { result ≡ any_opens now windows.now }
 {
-    let mut any = false;
-    for w in &windows[..count] {
-        any |= opens(now, *w);
-    }
-    any
+    windows.iter().any(|w| opens(now, *w))
 }
 
 // Outside all of a channel's windows, while the minute is set.
 pub fn closed(clock: Clock, t: Timetable) -> bool
     ensures { result ≡ closed clock t }
 {
-    let now = clock.minute;
-    let count = t.count;
-    if 10079 < now {
+    if LAST_MINUTE < clock.minute {
         return false;
     }
-    if !(1..=8).contains(&count) {
+    if !(1..=8).contains(&t.count) {
         return false;
     }
-    !any_opens(now, count as usize, t.windows)
+    !any_opens(clock.minute, &t.windows[..usize::from(t.count)])
 }
 
 // A window of a call, its start times 65536 plus its end.
@@ -124,11 +115,10 @@ pub fn no_windows() -> Timetable
 pub fn timetable_of(ns: &[u32]) -> Timetable
     ensures { result ≡ timetable_of ns.now }
 {
-    let none = Window { start: 0, end: 0 };
-    let mut windows = [none; 8];
+    let mut windows = no_windows().windows;
     let count = ns.len().min(8);
-    for k in 0..count {
-        windows[k] = window_of(ns[k]);
+    for (k, w) in windows[..count].iter_mut().enumerate() {
+        *w = window_of(ns[k]);
     }
     Timetable {
         count: count as u8,

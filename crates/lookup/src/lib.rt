@@ -36,8 +36,8 @@ fn on_line(p: Pair, q: Pair, x: f32) -> f32
     if x == q.x { q.y } else { between(p, q, x) }
 }
 
-// The first pair that x is not above decides. Where x is above all there is none, and 0 stands there;
-// no call comes to that.
+// The first pair that x is not above decides. Where x is above all there is none, and 0 stands there,
+// as `from_first` of the model (specs/Lookup) has it; no call comes to that.
 fn from_first(pairs: [Pair; 10], x: f32) -> f32
     ensures { result ≡ from_first (pair_at (map acting_pair pairs) 1) (drop 1 (map acting_pair pairs)) x }
 {
@@ -57,18 +57,18 @@ fn from_first(pairs: [Pair; 10], x: f32) -> f32
 fn looked_up(t: LevelTable, x: f32) -> f32
     ensures { result ≡ looked_up (acts t) x }
 {
-    let pairs = t.pairs;
-    let first = acting_pair(pairs[0]);
+    let first = acting_pair(t.pairs[0]);
     if x <= first.x {
         return first.y;
     }
-    let last = acting_pair(pairs[9]);
+    let last = acting_pair(t.pairs[9]);
     if last.x < x {
         return last.y;
     }
-    from_first(pairs, x)
+    from_first(t.pairs, x)
 }
 
+// A number, 1 or 2: the exported `pd3120_look_up` is given one, and question 15 asks it.
 fn table_of(k: u8, d: DataChannel) -> LevelTable
     ensures { result ≡ table_of k d }
 {

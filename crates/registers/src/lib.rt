@@ -10,7 +10,8 @@ ghost use Rattle.registers.specs.Places.{placed, slot_of};
 use model::{Access, CommonRegister, DataRegister, DigitalRegister, ServiceRegister};
 
 // A register of the service channel, of a digital channel by its number, of the common or of the
-// data channel; or none that is listed.
+// data channel; or none that is listed. No Option of a place: `placed` (specs/Places) has the model's
+// five cases, and question 2, access and size speak of `unlisted`.
 #[derive(Clone, Copy)]
 pub enum Place {
     Service(ServiceRegister),
@@ -20,6 +21,7 @@ pub enum Place {
     Unlisted,
 }
 
+// A match is the table in this and the three functions after it: a row a line, as document 01 has it.
 fn service_place(n: u16) -> Place
     ensures { placed result ≡ Table.find Table.service Table.service_row n Table.service_registers }
 {
@@ -101,13 +103,15 @@ pub fn place_of(swno: u16) -> Place
 }
 
 // A channel's place among the sixteen, counted from 0. For a number that is no channel's it is that
-// of channel 1. A plain number, and no type that holds `result < 16`: the callers take it as an index.
+// of channel 1 (`slot_of`, specs/Places). A plain number, and no type that holds `result < 16`: the
+// callers take it as an index.
 pub fn slot(channel: usize) -> usize
     ensures { (result ≡ slot_of channel) × (result < 16) }
 {
-    match channel {
-        1..=16 => channel - 1,
-        _ => 0,
+    if (1..=16).contains(&channel) {
+        channel - 1
+    } else {
+        0
     }
 }
 
@@ -115,7 +119,7 @@ pub fn slot(channel: usize) -> usize
 pub fn wire_slot(swno: u16) -> usize
     ensures { (result ≡ slot_of (swno / 16)) × (result < 16) }
 {
-    slot((swno / 0x10) as usize)
+    slot(usize::from(swno / 0x10))
 }
 
 // A register's access and size.

@@ -45,7 +45,7 @@ pub fn functions(ch: Channel) -> Function
 pub fn reference_of(n: u8) -> Reference
     ensures { result ≡ reference_of n }
 {
-    if (1 <= n) & (n <= 16) {
+    if (1..=16).contains(&n) {
         return Reference::Channel(n);
     }
     Reference::None
@@ -56,7 +56,7 @@ pub fn is_set(r: Reference) -> bool
 {
     match r {
         Reference::None => false,
-        Reference::Channel(k) => (1 <= k) & (k <= 16),
+        Reference::Channel(k) => (1..=16).contains(&k),
     }
 }
 
@@ -117,22 +117,14 @@ pub fn bit_of(word: u16, k: usize) -> bool
     k < 16 && (word >> k) % 2 == 1
 }
 
-// InFlag of a reference. Bit k-1 of levels is InFlag of channel k.
+// InFlag of a reference. Bit k-1 of levels is InFlag of channel k. The word goes beside a channel and
+// in no record with it: `in_a`, `in_b_of` (specs/Settings) are given the levels and the channel.
 pub fn level_of(levels: u16, r: Reference) -> bool
     ensures { result ≡ level_of (levels_of levels) r }
 {
     match r {
-        Reference::None => false,
-        Reference::Channel(k) => {
-            let n = k as usize;
-            if n < 1 {
-                return false;
-            }
-            if 16 < n {
-                return false;
-            }
-            bit_of(levels, n - 1)
-        }
+        Reference::Channel(k) if (1..=16).contains(&k) => bit_of(levels, usize::from(k) - 1),
+        _ => false,
     }
 }
 

@@ -1,11 +1,18 @@
-use Rattle.std.proofs.Common.{rules, ◌<◌, length, take}
-use native.Mathlib.Numerals.{add-one}
-use Rattle.hours.proofs.Laws.{open_next}
+use Rattle.std.proofs.Common.{rules, ◌≡◌, refl, ap, ◌∙◌, Bool, ◌||◌, List, [], ◌∷◌, ℕ}
+use Rattle.std.proofs.lemmas.Iterator.{YieldsList-from_slice}
+use Rattle.std.proofs.lemmas.Iterator.Search.{any_from_yields_List}
+use Rattle.std.specs.List.{list_any}
+use Rattle.model.specs.declared.Window.{Window}
+use Rattle.model.specs.Hours.{opens, any_opens}
 use Rattle.hours.proofs.any_opens.Goals as goal
 
-pub loop-w-preserved : goal.loop-w-preserved
-loop-w-preserved c =
-    let l = c.loop-w in
-    let ws = take c.args.count c.args.windows in
-    let h : l.w-index < length ws = search rules in
-    rw (c.opens-any.ensures, l.invariant, add-one) (open_next c.args.now l.w-index ws _ h)
+-- any of them, one after another
+one_by_one : (now : ℕ) (ws : List Window) → list_any (opens now) ws ≡ any_opens now ws
+one_by_one now [] = refl
+one_by_one now (w ∷ ws) = ap (λ (b : Bool). opens now w || b) (one_by_one now ws)
+
+pub returns : goal.returns
+returns c =
+    let ws = c.args.windows.now in
+    any_from_yields_List (opens c.args.now) _ _ c.any.result c.any.ensures.ran (YieldsList-from_slice ws cc) (λ x b q k. search rules)
+    ∙ one_by_one c.args.now ws
