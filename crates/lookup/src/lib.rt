@@ -36,8 +36,8 @@ fn on_line(p: Pair, q: Pair, x: f32) -> f32
     if x == q.x { q.y } else { between(p, q, x) }
 }
 
-// The first pair that x is not above decides. Where x is above all there is none, and 0 stands there,
-// as `from_first` of the model (specs/Lookup) has it; no call comes to that.
+// The first pair that x is not above decides. Where x is above all there is none, and 0 stands
+// there, as `from_first` of the model (specs/Lookup) has it; no call comes to that.
 fn from_first(pairs: [Pair; 10], x: f32) -> f32
     ensures { result ≡ from_first (pair_at (map acting_pair pairs) 1) (drop 1 (map acting_pair pairs)) x }
 {

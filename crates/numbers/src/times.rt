@@ -56,7 +56,7 @@ fn real_of(negative: bool, n: u32, unit: Unit) -> f32
     f32::from_bits(sign + (157 - unit.bits - zeros) * LEADING + digits)
 }
 
-// Two of each from here on, since the counts are two types (document 01, Forms 6); the work is done once.
+// Two of each, since the counts are two types (document 01, Forms 6); the work is done once.
 pub fn timer_real(t: TimerCount) -> f32
     ensures { result ≡ real_of timer_units t.0 }
 {

@@ -1,6 +1,6 @@
-// Which Reals may be written: each range is asked of any f32. Four ranges, and not one function of two
-// ends: each edit (timer_low_end_refused, preset_range_after_rounding, minus_zero_refused) changes one,
-// and a call would be as long as the body.
+// Which Reals may be written: each range is asked of any f32. Four ranges, and not one function of
+// two ends: each edit (timer_low_end_refused, preset_range_after_rounding, minus_zero_refused)
+// changes one, and a call would be as long as the body.
 ghost use Rattle.std.specs.Prelude.{◌≡◌};
 ghost use Rattle.numbers.specs.Written.{timer_allowed, preset_allowed, operating_allowed, limit_allowed};
 

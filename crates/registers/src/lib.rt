@@ -10,8 +10,8 @@ ghost use Rattle.registers.specs.Places.{placed, slot_of};
 use model::{Access, CommonRegister, DataRegister, DigitalRegister, ServiceRegister};
 
 // A register of the service channel, of a digital channel by its number, of the common or of the
-// data channel; or none that is listed. No Option of a place: `placed` (specs/Places) has the model's
-// five cases, and question 2, access and size speak of `unlisted`.
+// data channel; or none that is listed. No Option of a place: `placed` (specs/Places) has the
+// model's five cases, and question 2, access and size speak of `unlisted`.
 #[derive(Clone, Copy)]
 pub enum Place {
     Service(ServiceRegister),
@@ -21,7 +21,7 @@ pub enum Place {
     Unlisted,
 }
 
-// A match is the table in this and the three functions after it: a row a line, as document 01 has it.
+// The match is the table, here and in the three functions below.
 fn service_place(n: u16) -> Place
     ensures { placed result ≡ Table.find Table.service Table.service_row n Table.service_registers }
 {

@@ -117,8 +117,8 @@ pub fn bit_of(word: u16, k: usize) -> bool
     k < 16 && (word >> k) % 2 == 1
 }
 
-// InFlag of a reference. Bit k-1 of levels is InFlag of channel k. The word goes beside a channel and
-// in no record with it: `in_a`, `in_b_of` (specs/Settings) are given the levels and the channel.
+// InFlag of a reference. Bit k-1 of levels is InFlag of channel k. The word goes beside a channel,
+// and in no record with it: `in_a` and `in_b_of` (specs/Settings) are given the two.
 pub fn level_of(levels: u16, r: Reference) -> bool
     ensures { result ≡ level_of (levels_of levels) r }
 {
