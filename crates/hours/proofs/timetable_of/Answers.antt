@@ -1,4 +1,4 @@
-use Rattle.std.proofs.Common.{rules, ◌≡◌, refl, ◌≤◌, ◌<◌, arith, ◌++◌, length, take, drop}
+use Rattle.std.proofs.Common.{◌≡◌, refl, ◌≤◌, ◌<◌, arith, ◌++◌, length, take, drop}
 use native.Mathlib.Numerals.{add-one}
 use lib.ListN.{length-take}
 use lib.Seq.{length-take-le}

@@ -1,4 +1,4 @@
-use Rattle.std.proofs.Common.{rules, tests, arith, ◌≡◌, true, ◌-◌, ◌<◌, ◌&&◌, nat_le}
+use Rattle.std.proofs.Common.{rules, arith, ◌≡◌, true, ◌-◌, ◌<◌, ◌&&◌, nat_le}
 use Rattle.settings.proofs.Laws.Levels.{level-at}
 use Rattle.settings.proofs.level_of.Goals as goal
 
