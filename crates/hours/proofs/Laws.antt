@@ -1,31 +1,13 @@
--- Windows one after another, as a loop goes through them. Assumes nothing.
-use mathlib.Core.Path.{◌≡◌, refl, sym, ◌∙◌, ap}
-use mathlib.Core.Bool.{Bool, true, false, ◌||◌}
+-- The windows of a call, as a loop takes them from the first to the last, over zeros. Assumes nothing.
+use mathlib.Core.Path.{◌≡◌, refl, ap}
 use mathlib.Core.List.{List, [], ◌∷◌, ◌++◌, map}
 use Prim.Native.Nat.{ℕ, zero, suc, ◌≤◌, ◌<◌}
 use native.Mathlib.Omega.{arith}
 use native.Mathlib.Nat.{le_of_suc-le-suc, not-suc-le-zero}
 use lib.ListN.{length, get_or, set, take, drop, replicate}
 use Rattle.model.specs.declared.Window.{Window}
-use Rattle.model.specs.Hours.{window_of, timetable_of, opens, any_opens}
+use Rattle.model.specs.Hours.{window_of, timetable_of}
 
-or-false : (b : Bool) → b || false ≡ b
-or-false true = refl
-or-false false = refl
-
-or-or : (a b c : Bool) → a || (b || c) ≡ (a || b) || c
-or-or true b c = refl
-or-or false b c = refl
-
-pub open_next : (now k : ℕ) (ws : List Window) (d : Window) → k < length ws
-    → any_opens now (take k ws) || opens now (get_or ws k d) ≡ any_opens now (take (suc k) ws)
-open_next now k [] d h = absurd (not-suc-le-zero h)
-open_next now zero (w ∷ ws) d h = sym (or-false (opens now w))
-open_next now (suc k) (w ∷ ws) d h =
-    sym (or-or (opens now w) (any_opens now (take k ws)) (opens now (get_or ws k d)))
-    ∙ ap (λ (b : Bool). opens now w || b) (open_next now k ws d (le_of_suc-le-suc h))
-
--- ---- the windows of a call, taken from the first to the last, over zeros
 zeros : (j q : ℕ) → j ≤ q → take {A = ℕ} j (replicate q 0) ≡ take j (replicate (suc q) 0)
 zeros zero q h = refl
 zeros (suc j) zero h = absurd (not-suc-le-zero h)
