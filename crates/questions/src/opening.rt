@@ -10,7 +10,7 @@ use model::{Refusal, Reply};
 fn is_minute(n: u16) -> bool
     ensures { result ≡ question18 n }
 {
-    n <= 10079
+    n <= hours::LAST_MINUTE
 }
 
 // 18 of the minute that is set.
