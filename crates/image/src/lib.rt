@@ -14,6 +14,7 @@ mod decode; // what an image's bytes hold
 mod encode; // an image's bytes, written into a buffer
 mod sizes; // how long its sections are, and where they stand
 
+#[tactic(auto, unfolding(model::specs::Questions::power_up_reply))]
 pub fn power_up_reply(img: &[u8]) -> Reply
     ensures { result ≡ power_up_reply img.now }
 {

@@ -25,13 +25,7 @@ fn within(swno: u16) -> bool
 fn listed(p: Place) -> bool
     ensures { result ≡ question2 (placed p) }
 {
-    match p {
-        Place::Service(_) => true,
-        Place::Digital(_, _) => true,
-        Place::Common(_) => true,
-        Place::Data(_) => true,
-        Place::Unlisted => false,
-    }
+    !matches!(p, Place::Unlisted)
 }
 
 // 3. On a write, writable?
@@ -65,6 +59,7 @@ pub fn ask(yes: bool, refusal: Refusal) -> Result<(), Refusal>
 }
 
 // Questions 1, 2 and 5, of a read into a lent buffer; p is the place of the SWNo.
+#[tactic(auto, unfolding(model::specs::Questions::read_reply))]
 pub fn read_reply(swno: u16, p: Place, lent: &[u8]) -> Reply
     ensures { result ≡ read_reply swno (placed p) lent.now }
 {
@@ -93,7 +88,7 @@ pub fn write_reply(enable: bool, swno: u16, p: Place, bytes: &[u8]) -> Reply
 pub(crate) fn is_digital(k: u8) -> bool
     ensures { result ≡ is_digital k }
 {
-    (1 <= k) & (k <= 16)
+    (1..=16).contains(&k)
 }
 
 // 8 of the channel, then 9 of the current.
@@ -106,7 +101,9 @@ pub fn sample_reply(k: u8, x: f32) -> Reply
     Ok(0)
 }
 
-// 15 of the table's number, and 7 of X.
+// 15 of the table's number, and 7 of X. A number: the exported `pd3120_look_up` is given one, and
+// question 15 asks it.
+#[tactic(auto, unfolding(model::specs::Questions::look_up_reply))]
 pub fn look_up_reply(k: u8, x: f32) -> Reply
     ensures { result ≡ look_up_reply k x }
 {

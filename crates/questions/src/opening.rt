@@ -14,6 +14,7 @@ fn is_minute(n: u16) -> bool
 }
 
 // 18 of the minute that is set.
+#[tactic(auto, unfolding(model::specs::Questions::minute_reply))]
 pub fn minute_reply(n: u16) -> Reply
     ensures { result ≡ minute_reply n }
 {
@@ -37,6 +38,7 @@ fn are_minutes(windows: &[u32]) -> bool
 }
 
 // 8 of the channel, 19 of how many windows there are, then 18 of each.
+#[tactic(auto, unfolding(model::specs::Questions::windows_reply))]
 pub fn windows_reply(k: u8, windows: &[u32]) -> Reply
     ensures { result ≡ windows_reply k windows.now }
 {

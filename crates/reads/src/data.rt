@@ -32,6 +32,7 @@ fn put_table(t: &LevelTable, buf: &mut [u8])
     buffers::put_pairs(&t.pairs, buf, 0);
 }
 
+#[tactic(auto, unfolding(model::specs::Reads::data_bytes))]
 pub(crate) fn fill(r: DataRegister, d: DataChannel, buf: &mut [u8])
     requires { (data_row r).size ≤ length buf.old }
     ensures { buf.new ≡ overwritten (data_bytes r d) buf.old }

@@ -1,4 +1,5 @@
-// Each kind of value that a register shows, as its bytes.
+// Each kind of value that a register shows, as its bytes: a line each over `hold`, since a trait of
+// what has bytes would need a law for each.
 ghost use Rattle.std.specs.Prelude.{◌≡◌, [], ◌∷◌, pos};
 ghost use Rattle.integers.specs.Bytes.{bytes_of, signed_bytes};
 ghost use Rattle.numbers.specs.Reals.{real_bytes, real_of};

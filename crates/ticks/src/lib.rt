@@ -1,5 +1,6 @@
 // The whole tick, 1/32 s: it begins with step 1 on the shared record and the watchdog, and then goes
 // over the data channel, and over the channels, each by itself against the InFlags of the tick's start.
+// A record is changed in its copy where it stands: see channel.
 #![tactic(auto)]
 
 ghost use Rattle.std.specs.Prelude.{◌≡◌, cond, map};
@@ -16,7 +17,8 @@ use std::hint::select_unpredictable;
 
 // What a tick has worked out when it comes to the channels: the shared record and the service record
 // after step 1, how many channels it saves in the end (all or none), whether the watchdog ran out,
-// and, where it looks at the feedback, the InFlags, bit k-1 for channel k.
+// and, where it looks at the feedback, the InFlags, bit k-1 for channel k. count is a count, 16 or 0,
+// as `begun_of` (specs/Begun) has it, and the bound of the loop that saves.
 #[derive(Clone, Copy)]
 pub struct Begun {
     pub shared: Shared,
@@ -77,7 +79,8 @@ pub fn tick_service(ran_out: bool, v: Service) -> Service
     next
 }
 
-// The InFlags, from channel 16 down, so that channel 1 comes to bit 0.
+// The InFlags, from channel 16 down, so that channel 1 comes to bit 0. Not `words::of_channels`: ticks
+// doesn't stand on errors, and that makes four words.
 pub fn levels(channels: [Channel; 16]) -> u16
     ensures { result ≡ word_of (map in_flag_of channels) }
 {
@@ -141,18 +144,16 @@ fn put_back(after: Channel, ch: Channel) -> Channel
 pub fn tick_one(b: Begun, ch: Channel) -> Channel
     ensures { result ≡ ticked_by b ch }
 {
-    let s = b.shared;
-    put_back(tick_channel(s, b.ran_out, b.levels, ch), ch)
+    put_back(tick_channel(b.shared, b.ran_out, b.levels, ch), ch)
 }
 
 // The data channel: its timers run, and a tick that saves keeps RealA.
 pub fn tick_data(b: Begun, d: DataChannel) -> DataChannel
     ensures { result ≡ data_ticked_by b d }
 {
-    let before = d.timers;
     let timers = DataTimers {
-        a: before.a.out_timer_tick(),
-        b: before.b.out_timer_tick(),
+        a: d.timers.a.out_timer_tick(),
+        b: d.timers.b.out_timer_tick(),
     };
     let mut next = d;
     next.timers = timers;
@@ -162,7 +163,10 @@ pub fn tick_data(b: Begun, d: DataChannel) -> DataChannel
     next
 }
 
-// From channel 16 to 1, since the terminal board latches 16 first, each with step 7.
+// From channel 16 to 1, since the terminal board latches 16 first, each with step 7. By index: after
+// `iter_mut().rev()` a proof knows no element (as in pd3120_tick). By value; pd3120_tick goes over C's
+// module in its place, since a second sixteen channels would double its stack. `saved due` is the
+// model's: a tick saves all or none.
 fn tick_channels(b: Begun, due: bool, channels: [Channel; 16]) -> [Channel; 16]
     ensures { result ≡ map (λ ch. saved due (ticked_by b ch)) channels }
 {

@@ -22,7 +22,8 @@ use registers::Place;
 
 // What a write answers, and what is left to do of it once the records and the SWNo's own channel are
 // changed: `each` is to be asked for the first count channels, with the place and the word, and
-// `data_after` where of_data; elsewhere the data channel stays.
+// `data_after` where of_data; elsewhere the data channel stays. A refused write has count 0 and no
+// data, as `BegunBy` and `whole_of` (specs/Begun) have it: `each` is asked for none.
 #[derive(Clone, Copy)]
 pub struct Rest {
     pub reply: Reply,
@@ -59,7 +60,7 @@ pub fn begin(s: Shared, v: Service, ch: Channel, swno: u16, b: &[u8]) -> Begun
 }
 
 // The same for a caller that lends its records and its channel: copies of them would deepen its
-// stack.
+// stack. Parts, and no struct of them: they lie in C's module, and `BegunBy` speaks of each.
 pub fn begin_in_place(
     s: &mut Shared,
     v: &mut Service,
@@ -78,7 +79,7 @@ pub fn begin_in_place(
             *v = write.service_after(*v);
             *s = write.shared_after(*s);
             Rest {
-                reply: reply,
+                reply,
                 count: write.count(),
                 of_data: write.of_data(),
                 place: p,
@@ -86,7 +87,7 @@ pub fn begin_in_place(
             }
         }
         Err(_) => Rest {
-            reply: reply,
+            reply,
             count: 0,
             of_data: false,
             place: p,
@@ -118,6 +119,8 @@ pub fn each(p: Place, word: u16, k: usize, ch: Channel) -> Channel
     }
 }
 
+// By value; pd3120_c's loop goes over C's module in its place, since a second sixteen channels would
+// double its stack.
 fn first_each(p: Place, word: u16, count: usize, channels: [Channel; 16]) -> [Channel; 16]
     requires { count ≤ 16 }
     ensures { result ≡ first_each (each_written (placed p) word) count channels }

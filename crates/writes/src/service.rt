@@ -58,7 +58,8 @@ pub(crate) fn write_data(r: ServiceRegister, d: DataChannel) -> DataChannel
     }
 }
 
-// How many channels, from the first, write_every is to be asked for.
+// How many channels, from the first, write_every is to be asked for: 16 or 0, since `service_count`
+// (specs/Begun) is a count.
 pub(crate) fn count_of(r: ServiceRegister) -> usize
     ensures { result ≡ service_count r }
 {
