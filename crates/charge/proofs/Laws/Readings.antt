@@ -50,8 +50,6 @@ unfolding cleared bytes_read digital_bytes signed_bytes bytes_of
 counter-read m k d fits =
     ap (λ (s : Stepped). signed_number s.answer.buffer) (wire-read m k d) ∙ come-back.signed_numbers w32 4 refl (channel_at m k).counter fits
 
-
-
 -- no refusal has the number of what is done
 pub never_done : (r : Refusal) → refusal_number r ≡ 0 → ⊥
 never_done Beyond e = omega (arith, e)
