@@ -97,11 +97,11 @@ impl AllowedBlocks<'_> {
         let mut sum = 0;
         for (limit, price) in self.limits.iter().zip(self.prices) {
             let taken = left.min(*limit - before);
-            sum += taken * (*price as u64);
+            sum += taken * u64::from(*price);
             left -= taken;
             before = *limit;
         }
-        sum + left * (self.prices[self.limits.len()] as u64)
+        sum + left * u64::from(self.prices[self.limits.len()])
     }
 }
 
@@ -120,6 +120,6 @@ pub fn charge(
     }
     let blocks = AllowedBlocks::of(&t)?;
     let pulses = pulses_between(earlier, later);
-    let litres = (pulses as u64) * (litres_per_pulse as u64);
+    let litres = u64::from(pulses) * u64::from(litres_per_pulse);
     Ok((blocks.fill(litres) + 50) / 100)
 }

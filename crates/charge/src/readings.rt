@@ -19,20 +19,16 @@ pub struct Reading {
 pub fn read_counter(m: Module, channel: u8) -> Reading
     ensures { shown result ≡ reading m channel }
 {
-    if channel < 1 || 16 < channel {
+    if !(1..=16).contains(&channel) {
         return Reading {
             after: m,
             counter: Err(Refusal::NoChannel),
         };
     }
     let mut buf = [0u8; 4];
-    let done = pd3120::read(m, (channel as u16) * 16 + COUNTER, &mut buf);
-    let counter = match done.reply {
-        Ok(_) => Ok(bytes::i32_of_bytes(buf)),
-        Err(why) => Err(why),
-    };
+    let done = pd3120::read(m, u16::from(channel) * 16 + COUNTER, &mut buf);
     Reading {
         after: done.after,
-        counter,
+        counter: done.reply.map(|_| bytes::i32_of_bytes(buf)),
     }
 }

@@ -34,7 +34,7 @@ pub extern "C" fn pd3120_charge(
         }
         Err(why) => {
             *cents = 0;
-            why.number() as u32
+            u32::from(why.number())
         }
     }
 }

@@ -7,19 +7,20 @@ ghost use Rattle.model.specs.Errors.{data_error_of, general_error_of};
 ghost use Rattle.model.specs.Registers.{place};
 ghost use Rattle.model.specs.Questions.{read_reply};
 ghost use Rattle.model.specs.Calls.{read, write, sample, look_up, minute, windows, tick, step, cleared, watchdog_preset};
-ghost use Rattle.pd3120.specs.Answers.{step_of, sample_of, look_up_of, tick_of, output_at, request_of, answer_buffer, lent_after, RecordBy, SharedBy, PoweredUp};
-ghost use Rattle.pd3120.specs.Answers.{StoredBy, plain_of};
+ghost use Rattle.pd3120.specs.Answers.{step_of, sample_of, look_up_of, tick_of, output_at, RecordBy, SharedBy, PoweredUp, StoredBy};
 ghost use Rattle.writes.specs.Begun.{begun_with};
 ghost use Rattle.pd3120.specs.Parts.{ReadBy, WriteBy};
 
+mod calls;
 pub mod lookups;
 pub mod opening;
 pub mod replies;
 pub mod samples;
 
+pub use calls::call;
 use errors::words;
 use errors::words::Words;
-use model::{Call, Channel, DataChannel, Module, Outcome, Refusal, Reply, Service, Shared};
+use model::{Channel, DataChannel, Module, Outcome, Refusal, Reply, Service, ServiceBits, Shared};
 use writes::{Begun, Rest};
 
 // DataError and GeneralError.
@@ -35,7 +36,8 @@ pub const NO_BITS: WireBits = WireBits {
     general_error: false,
 };
 
-// What a call answers, and the box that it leaves. real_bits are a lookup's, and 0 of any other call.
+// What a call answers, and the box that it leaves. real_bits are a lookup's, and 0 of any other call:
+// the model's `Answer` has all parts for every call (`step_of`).
 #[derive(Clone, Copy)]
 pub struct Answered {
     pub after: Module,
@@ -68,7 +70,7 @@ pub fn store(m: Module, buf: &mut [u8]) -> Reply
     image::store(m, buf)
 }
 
-// The same for a box that is there, without a second one beside it.
+// The same for a box that is there, without a second one beside it. docs/ARCHITECTURE.md names both.
 pub fn power_up_in_place(m: &mut Module, img: &[u8]) -> Reply
     ensures { PoweredUp img.now (record { after = m.new; reply = result }) }
 {
@@ -79,18 +81,23 @@ pub fn power_up_in_place(m: &mut Module, img: &[u8]) -> Reply
 fn clear(v: Service) -> Service
     ensures { RecordBy cleared v result }
 {
-    let mut next = v;
-    next.act.wd_run_out = false;
-    next
+    Service {
+        act: ServiceBits {
+            wd_run_out: false,
+            ..v.act
+        },
+        ..v
+    }
 }
 
 // And last sets WDTimer to WDPreset.
 fn preset_watchdog(s: Shared, v: Service) -> Service
     ensures { SharedBy watchdog_preset s v result }
 {
-    let mut next = v;
-    next.wd_timer = s.wd_preset;
-    next
+    Service {
+        wd_timer: s.wd_preset,
+        ..v
+    }
 }
 
 // The two bits, as they are in a box.
@@ -106,7 +113,8 @@ pub fn error_bits(m: Module) -> WireBits
 
 // For a caller that holds the box in its own memory and puts the parts back itself: s, v, ch, d and w
 // are the box's shared and service records, the SWNo's channel, the data channel, and the words of all
-// channels. The two bits are those before the acknowledgement.
+// channels. The two bits are those before the acknowledgement. Parts, and no struct of them: the
+// caller would copy the box into it (PD3120_CALL_STACK), and `ReadBy` speaks of each.
 pub fn read_changes(
     s: Shared,
     v: Service,
@@ -158,7 +166,8 @@ pub fn read(m: Module, swno: u16, buf: &mut [u8]) -> Answered
 }
 
 // For a caller that holds the box in its own memory: the records and the SWNo's channel that it puts
-// back, and what `writes::data_after` and `writes::each` are then to do.
+// back, and what `writes::data_after` and `writes::each` are then to do. Parts, as in `read_changes`:
+// `WriteBy` speaks of each.
 pub fn begin_write(s: Shared, v: Service, ch: Channel, swno: u16, bytes: &[u8]) -> Begun
     ensures { WriteBy s v ch swno bytes.now result }
 {
@@ -236,17 +245,19 @@ pub fn set_minute(m: Module, of_week: u16) -> Outcome<Module>
     ensures { sample_of result ≡ step m (minute of_week) }
 {
     let set = opening::set_minute(m.shared, of_week);
-    let mut next = m;
-    next.shared = set.after;
+    let after = Module {
+        shared: set.after,
+        ..m
+    };
     Outcome {
-        after: next,
+        after,
         reply: set.reply,
     }
 }
 
 // A channel's windows, given whole; an empty slice takes them away. Each is one number, its start
-// times 65536 plus its end. The steps around the call are those of `sample`: a function of a closure for
-// both would be as long as the two, and need a contract of its own.
+// times 65536 plus its end. `sample`, `set_minute` and this have the same steps around the call: a
+// function of a closure for all three would be as long as they are, and need a contract of its own.
 pub fn set_windows(m: Module, channel: u8, given: &[u32]) -> Outcome<Module>
     ensures { sample_of result ≡ step m (windows channel given.now) }
 {
@@ -272,49 +283,4 @@ pub fn output(m: Module, channel: u8) -> bool
 {
     let k = usize::from(channel);
     (1..=16).contains(&k) && settings::output(m.channels[k - 1])
-}
-
-// Samples, calls of opening hours and ticks answer no bits.
-fn plain(s: Outcome<Module>) -> Answered
-    ensures { result ≡ plain_of s }
-{
-    Answered {
-        after: s.after,
-        reply: s.reply,
-        bits: NO_BITS,
-        real_bits: 0,
-    }
-}
-
-// A lookup answers its Real besides.
-fn looked_up(m: Module, table: u8, x: f32) -> Answered
-    ensures { step_of result [] ≡ step m (look_up table x) }
-{
-    let found = look_up(m, table, x);
-    Answered {
-        after: m,
-        reply: found.map(|_| 0),
-        bits: NO_BITS,
-        real_bits: found.unwrap_or(0),
-    }
-}
-
-// Any of the seven calls: a write takes its bytes from written, a channel is given the windows of the
-// slice windows, and a read lends lent.
-pub fn call(m: Module, c: Call, written: &[u8], windows: &[u32], lent: &mut [u8]) -> Answered
-    ensures answer { step_of result (answer_buffer c lent.new) ≡ step m (request_of c written.now windows.now lent.old) }
-    ensures buffer { lent.new ≡ lent_after c m lent.old }
-{
-    match c {
-        Call::Read(swno) => read(m, swno, lent),
-        Call::Write(swno) => write(m, swno, written),
-        Call::Sample(channel, level, amperes) => plain(sample(m, channel, level, amperes)),
-        Call::LookUp(table, x) => looked_up(m, table, x),
-        Call::Minute(minute) => plain(set_minute(m, minute)),
-        Call::Windows(channel) => plain(set_windows(m, channel, windows)),
-        Call::Tick => plain(Outcome {
-            after: tick(m),
-            reply: Ok(0),
-        }),
-    }
 }

@@ -3,7 +3,8 @@ ghost use Rattle.pd3120.specs.Parts.{LookedUpBy};
 
 use model::{DataChannel, Refusal};
 
-// The bits of its Real, or why it is refused. d is the box's data channel.
+// The bits of its Real, or why it is refused. d is the box's data channel. table and x stand apart,
+// as the exported `pd3120_look_up` is given them.
 pub fn look_up(d: DataChannel, table: u8, x: f32) -> Result<u32, Refusal>
     ensures { LookedUpBy d table x result }
 {

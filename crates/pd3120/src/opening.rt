@@ -10,9 +10,10 @@ use model::{Channel, Outcome, Shared};
 fn with_minute(s: Shared, minute: u16) -> Shared
     ensures { result ≡ with_clock (clock_at minute) s }
 {
-    let mut next = s;
-    next.clock = hours::set_to(minute);
-    next
+    Shared {
+        clock: hours::set_to(minute),
+        ..s
+    }
 }
 
 // s is the box's shared record.
@@ -30,9 +31,10 @@ pub fn set_minute(s: Shared, minute: u16) -> Outcome<Shared>
 fn with_windows(ch: Channel, windows: &[u32]) -> Channel
     ensures { result ≡ with_timetable (timetable_of windows.now) ch }
 {
-    let mut next = ch;
-    next.timetable = hours::timetable_of(windows);
-    next
+    Channel {
+        timetable: hours::timetable_of(windows),
+        ..ch
+    }
 }
 
 // ch is the channel at the place that `samples::slot` gives. Each window is its start times 65536 plus

@@ -4,8 +4,8 @@ ghost use Rattle.model.specs.Questions.{refusal_number, number_of, length_of};
 
 use model::{Refusal, Reply};
 
-// Not `u8::from`: model, where From for a Refusal would have to stand, holds no function (docs/DECISIONS.md).
-// Not the variants' discriminants: the edit two_refusals_of_one_number gives two variants one number.
+// Document 01's number of each case, which stands in the code here alone: model's enum is a list of
+// words. No `u8::from`: that would stand in model, which holds no function (docs/DECISIONS.md).
 pub fn refusal_number(r: Refusal) -> u8
     ensures { result ≡ refusal_number r }
 {
@@ -34,10 +34,7 @@ pub fn refusal_number(r: Refusal) -> u8
 pub fn number(r: Reply) -> u8
     ensures { result ≡ number_of r }
 {
-    match r {
-        Ok(_) => 0,
-        Err(why) => refusal_number(why),
-    }
+    r.err().map_or(0, refusal_number)
 }
 
 // 0 for a refusal.

@@ -14,7 +14,10 @@ pub fn slot(channel: u8) -> usize
     registers::slot(usize::from(channel))
 }
 
-// s is the box's shared record, ch the channel at the place that `slot` gives.
+// s is the box's shared record, ch the channel at the place that `slot` gives. channel, level and
+// amperes stand apart, as the exported `pd3120_sample` is given them.
+// `opening`'s two end alike and differ in the call: one function of a closure for the three would
+// need clauses for Ok and for Err, and be as long as the lines that it spares.
 pub fn take(s: Shared, ch: Channel, channel: u8, level: bool, amperes: f32) -> Outcome<Channel>
     ensures { SampleBy channel level amperes s ch result }
 {

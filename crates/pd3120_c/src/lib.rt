@@ -64,8 +64,8 @@ pub extern "C" fn pd3120_write(m: &mut Module, swno: u16, bytes: &[u8]) -> u32
     if rest.of_data {
         writing::data(before, &mut m.data_channel, swno, bytes);
     }
-    for k in 0..rest.count {
-        writing::each(rest.place, rest.word, k, &mut m.channels[k]);
+    for (k, ch) in m.channels[..rest.count].iter_mut().enumerate() {
+        writing::each(rest.place, rest.word, k, ch);
     }
     codes::pack(rest.reply, pd3120::error_bits(*m))
 }
@@ -111,8 +111,9 @@ pub extern "C" fn pd3120_look_up(m: &Module, table: u8, x: f32) -> u64
 }
 
 // From channel 16 to 1, since the terminal board latches 16 first. The save is a loop of its own, so
-// that the ticks without it, all but one in ten hours, do not touch the kept values. By index: after
-// `for ch in m.channels.iter_mut().rev()` a proof knows how many channels there are, and none of them.
+// that the ticks without it, all but one in ten hours, do not touch the kept values. By index: with
+// `iter_mut().rev()`, over `m.channels` or over a function's `&mut [Channel]`, the goal `returns` stays
+// open: what the elements are after the loop.
 #[unsafe(no_mangle)]
 pub extern "C" fn pd3120_tick(m: &mut Module)
     ensures { Ticked m.old m.new }
