@@ -36,7 +36,7 @@ impl Text<'_> {
 
     // A bit, as 0 or 1, after a blank.
     pub fn put_bit(&mut self, bit: bool) {
-        self.put(if bit { b" 1" } else { b" 0" });
+        self.put_number(u64::from(bit));
     }
 
     // A byte in hexadecimal digits, where there is room for both: `{:02x}` tests no room, and the edit
