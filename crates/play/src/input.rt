@@ -85,8 +85,8 @@ impl Player<'_> {
         text.len() - rest.len()
     }
 
-    // What is left of a text after its last line feed waits at the start, unless it is too long to be
-    // a line.
+    // What is left of a text after its last line feed waits at the start, unless it is too long to
+    // be a line.
     fn keep_rest(&mut self, text: &mut Text, used: usize)
         requires { used ≤ text.old.len }
     {

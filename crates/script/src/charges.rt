@@ -23,8 +23,8 @@ pub struct Charge {
     pub blocks: Blocks,
 }
 
-// How many blocks a charge of so many words has, up to eight: the three words before the blocks, and
-// two for each block but the last, which has one.
+// How many blocks a charge of so many words has, up to eight: the three words before the blocks,
+// and two for each block but the last, which has one.
 fn block_count(words: usize) -> Option<u32> {
     match words {
         3 => Some(0),
@@ -40,8 +40,8 @@ fn put<T: Copy>(numbers: &mut [T], j: usize, number: T) {
     }
 }
 
-// The words of so many blocks. Before each price but the last stands a limit. By index: a block past
-// the room is read and left out.
+// The words of so many blocks. Before each price but the last stands a limit. By index: a block
+// past the room is read and left out.
 fn take_blocks(count: u32, words: &mut Words) -> Result<Blocks, Wrong> {
     let all = count as usize;
     let mut blocks = Blocks {

@@ -9,8 +9,8 @@ use crate::{calls, charges, windows};
 // The most bytes of a line without its line feed.
 pub const LONGEST_LINE: usize = 16384;
 
-// A line, and how many bytes it has put at the start of the lent space: a number, since they stand in
-// the caller's space, with no heap. Each function from `parse_bytes` up to play's says that n is
+// A line, and how many bytes it has put at the start of the lent space: a number, since they stand
+// in the caller's space, with no heap. Each function from `parse_bytes` up to play's says that n is
 // within the space; no type can, since the space is the caller's argument.
 #[derive(Clone, Copy)]
 pub struct Parsed {

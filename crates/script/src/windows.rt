@@ -7,8 +7,8 @@ use crate::parameters::Wrong;
 use crate::words::Words;
 
 // The windows of a channel: how many there are, and each as the box takes it, its start in the high
-// half of the number and its end in the low half. A line has no more than sixteen, so that they need
-// no heap.
+// half of the number and its end in the low half. A line has no more than sixteen, so that they
+// need no heap.
 #[derive(Clone, Copy)]
 pub struct Windows {
     pub count: usize,
