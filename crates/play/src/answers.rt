@@ -9,7 +9,7 @@ use script::parameters::Wrong;
 use script::print::Text;
 use std::fmt::Write;
 
-// NAME NUMBER
+// NAME NUMBER. This, put_plain and put_start are three ends of one line; each calls the one before.
 fn put_head(text: &mut Text, name: &[u8], reply: Reply) {
     text.put(name);
     text.put_number(u64::from(replies::number(reply)));
@@ -21,7 +21,7 @@ fn put_plain(text: &mut Text, name: &[u8], reply: Reply) {
     text.put(b"\n");
 }
 
-// NAME NUMBER LENGTH
+// NAME NUMBER LENGTH. By `as`: no From makes a u64 of a usize.
 fn put_start(text: &mut Text, name: &[u8], reply: Reply) {
     put_head(text, name, reply);
     text.put_number(replies::length(reply) as u64);
@@ -118,10 +118,10 @@ pub(crate) fn put_answer(text: &mut Text, line: Line, answered: &Answered, bytes
     let reply = answered.reply;
     match line {
         Line::Empty => {}
-        Line::Power(_) => put_plain(text, b"power", reply),
-        Line::Store(_) => put_store(text, reply, bytes),
-        Line::Read(_, _) => put_read(text, answered, bytes),
-        Line::Write(_, _) => put_write(text, answered),
+        Line::Power => put_plain(text, b"power", reply),
+        Line::Store => put_store(text, reply, bytes),
+        Line::Read(_) => put_read(text, answered, bytes),
+        Line::Write(_) => put_write(text, answered),
         Line::Sample(_, _, _) => put_plain(text, b"sample", reply),
         Line::LookUp(_, _) => put_look_up(text, answered),
         Line::Tick(_) => put_plain(text, b"tick", reply),

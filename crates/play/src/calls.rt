@@ -24,7 +24,8 @@ fn store(m: Module, lent: &mut [u8]) -> Answered {
     plain(m, reply)
 }
 
-// Makes a call so many times over, and answers as the last does: once, but for ticks.
+// Makes a call so many times over, and answers as the last does: once, but for ticks. The parts are
+// as pd3120::call takes them.
 fn make(
     m: Module,
     c: Call,
@@ -50,10 +51,10 @@ pub(crate) fn perform(m: Module, line: Line, bytes: &mut [u8]) -> Answered {
     match line {
         // a charge is no call on the box, and the outputs are a question beside the calls
         Line::Empty | Line::Charge(_) | Line::Outputs => plain(m, Ok(0)),
-        Line::Power(_) => power(bytes),
-        Line::Store(_) => store(m, bytes),
-        Line::Read(swno, _) => once(m, Call::Read(swno), bytes),
-        Line::Write(swno, _) => make(m, Call::Write(swno), 1, bytes, &[], &mut []),
+        Line::Power => power(bytes),
+        Line::Store => store(m, bytes),
+        Line::Read(swno) => once(m, Call::Read(swno), bytes),
+        Line::Write(swno) => make(m, Call::Write(swno), 1, bytes, &[], &mut []),
         Line::Sample(channel, level, real) => {
             let amperes = reals::of_bits(real);
             once(m, Call::Sample(channel, level, amperes), bytes)

@@ -32,24 +32,24 @@ fn fill(input: &mut impl Read, text: &mut Text) -> bool {
     0 < n
 }
 
-// A line whose start was too long to be kept is too long, whatever is left of it.
-fn parse<'a>(number: u64, long: bool, line: &'a [u8], space: &mut [u8]) -> Result<Parsed<'a>, Wrong>
-    ensures { IfOk result (λ p. p.n ≤ length space.new) }
-{
-    if long {
-        return Err(Wrong::LineTooLong);
-    }
-    if number == 1 {
-        return lines::parse_first(line, space);
-    }
-    lines::parse(line, space)
-}
-
 impl Player<'_> {
+    // A line whose start was too long to be kept is too long, whatever is left of it.
+    fn parse(&mut self, line: &[u8]) -> Result<Parsed, Wrong>
+        ensures { IfOk result (λ p. p.n ≤ length self.new.space.now) }
+    {
+        if self.long {
+            return Err(Wrong::LineTooLong);
+        }
+        if self.line == 1 {
+            return lines::parse_first(line, self.space);
+        }
+        lines::parse(line, self.space)
+    }
+
     fn run_line(&mut self, line: &[u8]) {
         // no script reaches the highest number
         self.line = self.line.saturating_add(1);
-        match parse(self.line, self.long, line, self.space) {
+        match self.parse(line) {
             Ok(parsed) => {
                 let bytes = &mut self.space[..parsed.n];
                 let answered = calls::perform(self.after, parsed.line, bytes);
@@ -85,8 +85,8 @@ impl Player<'_> {
         text.len() - rest.len()
     }
 
-    // What is left of a text after its last line feed waits at the start, unless it is too long to be
-    // a line.
+    // What is left of a text after its last line feed waits at the start, unless it is too long to
+    // be a line.
     fn keep_rest(&mut self, text: &mut Text, used: usize)
         requires { used ≤ text.old.len }
     {

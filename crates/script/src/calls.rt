@@ -13,14 +13,15 @@ const LENT: u8 = 0xA5;
 
 const LONGEST_STORE: u64 = 4096;
 
-// What a line asks for. An image, a write and a lent buffer are the digits of their bytes.
+// What a line asks for. A line without a call is one of the answers, so there is no Option around
+// this. The bytes of an image, a write or a lent buffer stand beside it.
 #[derive(Clone, Copy)]
-pub enum Line<'a> {
+pub enum Line {
     Empty,
-    Power(&'a [u8]),
-    Store(usize),
-    Read(u16, &'a [u8]),
-    Write(u16, &'a [u8]),
+    Power,
+    Store,
+    Read(u16),
+    Write(u16),
     Sample(u8, bool, u32),
     LookUp(u8, u32),
     Tick(u32),
@@ -28,6 +29,21 @@ pub enum Line<'a> {
     Minute(u16),
     Windows(u8, Windows),
     Outputs,
+}
+
+// The bytes that a call takes: none, those that a word's digits write, or as many as `store` lends.
+#[derive(Clone, Copy)]
+enum Bytes<'a> {
+    None,
+    Digits(&'a [u8]),
+    Lent(usize),
+}
+
+// A line, and the bytes of its call, which no space holds yet.
+#[derive(Clone, Copy)]
+pub(crate) struct Asked<'a> {
+    pub(crate) line: Line,
+    bytes: Bytes<'a>,
 }
 
 // Fills the start of the space with what `store` lends, as far as there is room; answers how far.
@@ -39,26 +55,31 @@ fn lend(n: usize, space: &mut [u8]) -> usize
     lent
 }
 
-impl Line<'_> {
-    // Puts the bytes that the call takes at the start of the space, as far as there is room; answers
-    // how many.
-    pub(crate) fn put_bytes(&self, space: &mut [u8]) -> usize
+impl Asked<'_> {
+    // Puts the bytes at the start of the space, as far as there is room; answers how many.
+    pub(crate) fn put_bytes(self, space: &mut [u8]) -> usize
         ensures { result ≤ length space.new }
     {
-        match self {
-            Line::Power(digits) | Line::Read(_, digits) | Line::Write(_, digits) => {
-                digits::parse_bytes(digits, space)
-            }
-            Line::Store(n) => lend(*n, space),
-            _ => 0,
+        match self.bytes {
+            Bytes::None => 0,
+            Bytes::Digits(word) => digits::parse_bytes(word, space),
+            Bytes::Lent(n) => lend(n, space),
         }
     }
 }
 
-// A word's digits of a byte string, of which '-' is the empty one.
-fn byte_digits(word: &[u8]) -> Result<&[u8], Wrong> {
+// A line whose call takes no bytes.
+pub(crate) fn without_bytes<'a>(line: Line) -> Asked<'a> {
+    Asked {
+        line,
+        bytes: Bytes::None,
+    }
+}
+
+// A line with the byte string that a word writes, of which '-' is the empty one.
+fn with_bytes(line: Line, word: &[u8]) -> Result<Asked, Wrong> {
     if word == b"-".as_slice() {
-        return Ok(b"");
+        return Ok(without_bytes(line));
     }
     if !digits::only_digits(word, Base::Hexadecimal) {
         return Err(Wrong::NotHexadecimal);
@@ -66,35 +87,41 @@ fn byte_digits(word: &[u8]) -> Result<&[u8], Wrong> {
     if word.len() % 2 == 1 {
         return Err(Wrong::OddDigits);
     }
-    Ok(word)
+    Ok(Asked {
+        line,
+        bytes: Bytes::Digits(word),
+    })
 }
 
-pub(crate) fn parse_power(mut words: Words) -> Result<Line, Wrong> {
+pub(crate) fn parse_power(mut words: Words) -> Result<Asked, Wrong> {
     words.exactly(1)?;
-    Ok(Line::Power(byte_digits(words.word()?)?))
+    with_bytes(Line::Power, words.word()?)
 }
 
-pub(crate) fn parse_store(mut words: Words) -> Result<Line, Wrong> {
+pub(crate) fn parse_store(mut words: Words) -> Result<Asked, Wrong> {
     words.exactly(1)?;
     let length = parameters::decimal(words.word()?, LONGEST_STORE)?;
-    Ok(Line::Store(length as usize))
+    Ok(Asked {
+        line: Line::Store,
+        bytes: Bytes::Lent(length as usize),
+    })
 }
 
 // SWNO BYTES
 fn parse_wire(mut words: Words) -> Result<(u16, &[u8]), Wrong> {
     words.exactly(2)?;
     let swno = parameters::swno(words.word()?)?;
-    Ok((swno, byte_digits(words.word()?)?))
+    Ok((swno, words.word()?))
 }
 
-pub(crate) fn parse_read(words: Words) -> Result<Line, Wrong> {
+pub(crate) fn parse_read(words: Words) -> Result<Asked, Wrong> {
     let (swno, lent) = parse_wire(words)?;
-    Ok(Line::Read(swno, lent))
+    with_bytes(Line::Read(swno), lent)
 }
 
-pub(crate) fn parse_write(words: Words) -> Result<Line, Wrong> {
+pub(crate) fn parse_write(words: Words) -> Result<Asked, Wrong> {
     let (swno, bytes) = parse_wire(words)?;
-    Ok(Line::Write(swno, bytes))
+    with_bytes(Line::Write(swno), bytes)
 }
 
 pub(crate) fn parse_sample(mut words: Words) -> Result<Line, Wrong> {

@@ -5,7 +5,8 @@ use crate::parameters::Wrong;
 use crate::words::Words;
 
 // The blocks of a charge: how many there are, and the limits and prices of the first. The arrays
-// are as long as those of a tariff of the charge, which has no heap either.
+// are as long as those of charge's Tariff, which has no heap either. This is not that type, since
+// script knows no crate of the box.
 #[derive(Clone, Copy)]
 pub struct Blocks {
     pub count: u32,
@@ -22,8 +23,8 @@ pub struct Charge {
     pub blocks: Blocks,
 }
 
-// How many blocks a charge of so many words has, up to eight: the three words before the blocks, and
-// two for each block but the last, which has one.
+// How many blocks a charge of so many words has, up to eight: the three words before the blocks,
+// and two for each block but the last, which has one.
 fn block_count(words: usize) -> Option<u32> {
     match words {
         3 => Some(0),
@@ -39,15 +40,17 @@ fn put<T: Copy>(numbers: &mut [T], j: usize, number: T) {
     }
 }
 
-// The words of so many blocks. Before each price but the last stands a limit.
+// The words of so many blocks. Before each price but the last stands a limit. By index: a block
+// past the room is read and left out.
 fn take_blocks(count: u32, words: &mut Words) -> Result<Blocks, Wrong> {
+    let all = count as usize;
     let mut blocks = Blocks {
         count,
         limits: [0; 3],
         prices: [0; 4],
     };
-    for j in 0..count as usize {
-        if j + 1 < count as usize {
+    for j in 0..all {
+        if j + 1 < all {
             let limit = parameters::whole(words.word()?)?;
             put(&mut blocks.limits, j, limit);
         }
@@ -57,7 +60,7 @@ fn take_blocks(count: u32, words: &mut Words) -> Result<Blocks, Wrong> {
     Ok(blocks)
 }
 
-pub(crate) fn parse_charge<'a>(mut words: Words) -> Result<Line<'a>, Wrong> {
+pub(crate) fn parse_charge(mut words: Words) -> Result<Line, Wrong> {
     let count = block_count(words.count()).ok_or(Wrong::WordCount)?;
     let earlier = parameters::bits(words.word()?)?;
     let later = parameters::bits(words.word()?)?;

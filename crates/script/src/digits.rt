@@ -77,7 +77,8 @@ fn character(digit: u64) -> u8
     b'0' + digit as u8
 }
 
-// Puts the last k decimal digits of a number at the start of out.
+// Puts the last k decimal digits of a number at the start of out. By index: a proof knows no
+// element after `iter_mut().rev()`.
 fn write_digits(n: u64, k: usize, out: &mut [u8])
     requires { k ≤ length out.old }
     ensures { take k out.new ≡ last_digits k n }

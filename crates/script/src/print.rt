@@ -4,8 +4,8 @@ ghost use Rattle.std.specs.Prelude.{◌≤◌, length};
 use crate::digits;
 use std::fmt;
 
-// A text at the start of a buffer. Each method puts more behind it, as much as there is room for. The
-// buffer is lent, so that it needs no heap.
+// A text at the start of a buffer. Each method puts more behind it, as much as there is room for.
+// The buffer is lent, so that it needs no heap.
 #[derive(Drop)]
 pub struct Text<'a> {
     pub bytes: &'a mut [u8],
@@ -36,11 +36,11 @@ impl Text<'_> {
 
     // A bit, as 0 or 1, after a blank.
     pub fn put_bit(&mut self, bit: bool) {
-        self.put(if bit { b" 1" } else { b" 0" });
+        self.put_number(u64::from(bit));
     }
 
-    // A byte in hexadecimal digits, where there is room for both: `{:02x}` tests no room, and the edit
-    // writes_without_room says that this does.
+    // A byte in hexadecimal digits, where there is room for both: `{:02x}` tests no room, and the
+    // edit writes_without_room says that this does.
     fn put_pair(&mut self, byte: u8) {
         if self.bytes.len() - self.len < 2 {
             return;

@@ -7,8 +7,8 @@ use crate::parameters::Wrong;
 use crate::words::Words;
 
 // The windows of a channel: how many there are, and each as the box takes it, its start in the high
-// half of the number and its end in the low half. A line has no more than sixteen, so that they need
-// no heap.
+// half of the number and its end in the low half. A line has no more than sixteen, so that they
+// need no heap.
 #[derive(Clone, Copy)]
 pub struct Windows {
     pub count: usize,
@@ -24,7 +24,7 @@ fn take_minute(words: &mut Words) -> Result<u16, Wrong> {
     parameters::whole(words.word()?)
 }
 
-pub(crate) fn parse_minute<'a>(mut words: Words) -> Result<Line<'a>, Wrong> {
+pub(crate) fn parse_minute(mut words: Words) -> Result<Line, Wrong> {
     words.exactly(1)?;
     Ok(Line::Minute(take_minute(&mut words)?))
 }
@@ -37,7 +37,7 @@ fn take_window(words: &mut Words) -> Result<u32, Wrong> {
 }
 
 // The channel alone, or two words more for each window.
-pub(crate) fn parse_windows<'a>(mut words: Words) -> Result<Line<'a>, Wrong> {
+pub(crate) fn parse_windows(mut words: Words) -> Result<Line, Wrong> {
     let all = words.count();
     if MOST_WORDS < all || all % 2 == 0 {
         return Err(Wrong::WordCount);

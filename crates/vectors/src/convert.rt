@@ -106,15 +106,15 @@ fn step(kind: u8, word: Word) -> Result<[u8; 4], NoAnswer> {
     Ok(bytes::bytes_of_i32(n))
 }
 
-// By the kind's two letters, which are matched where they choose: an enum would be a second list of the same kinds.
-// A kind of two bytes is a number of 16 bits, in 32.
+// By the kind's two letters, which are matched where they choose: an enum would be a second list of
+// the same kinds. A kind of two bytes is a number of 16 bits, in 32.
 pub fn convert(kind: [u8; 2], word: Word) -> Result<[u8; 4], NoAnswer> {
     let [first, second] = kind;
     match first {
         b'w' => write(second, word.real()),
         b'r' => read(second, word),
         b's' => step(second, word),
-        b'u' => Ok(bytes::bytes_of_u32(word.short() as u32)),
+        b'u' => Ok(bytes::bytes_of_u32(u32::from(word.short()))),
         _ => Err(NoAnswer::UnknownKind),
     }
 }

@@ -5,8 +5,8 @@ use std::io;
 // Letters are small alone: `to_digit` would take capitals too.
 fn digit(b: u8) -> Option<u32> {
     match b {
-        b'0'..=b'9' => Some((b - b'0') as u32),
-        b'a'..=b'f' => Some((b - b'a' + 10) as u32),
+        b'0'..=b'9' => Some(u32::from(b - b'0')),
+        b'a'..=b'f' => Some(u32::from(b - b'a' + 10)),
         _ => None,
     }
 }
@@ -23,7 +23,8 @@ fn word_of(line: &[u8; 12]) -> Option<Word> {
     Some(Word(word.to_be_bytes()))
 }
 
-// The eight characters of an answer: its number, whatever the bytes stand for, or the mark of why there is none.
+// The eight characters of an answer: its number, whatever the bytes stand for, or the mark of why
+// there is none.
 fn answer(out: &impl Print, answer: Result<[u8; 4], NoAnswer>) -> io::Result<()> {
     match answer {
         Ok(bytes) => {
