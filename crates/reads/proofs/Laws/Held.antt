@@ -1,14 +1,10 @@
 -- What a caller of the copies needs: the bytes that a register's record holds, and that no register is wider than it. Assumes nothing.
 use mathlib.Core.Path.{◌≡◌, refl, ap, ◌∙◌}
-use mathlib.Core.List.{List, []}
+use mathlib.Core.List.{List}
 use Prim.Native.Nat.{ℕ, ◌-◌, ◌≤◌}
 use native.Mathlib.Omega.{arith}
 use lib.ListN.{length, take, replicate}
 use lib.Seq.{take-append_seam}
-use Rattle.model.specs.declared.Channel.{Channel}
-use Rattle.model.specs.declared.Service.{Service}
-use Rattle.model.specs.declared.Shared.{Shared}
-use Rattle.model.specs.declared.DataChannel.{DataChannel}
 use Rattle.model.specs.declared.ServiceRegister.{ServiceRegister}
 use Rattle.model.specs.declared.DigitalRegister.{DigitalRegister}
 use Rattle.model.specs.declared.CommonRegister.{CommonRegister}
@@ -17,16 +13,9 @@ use Rattle.model.specs.declared.DigitalRegister.TheVariants.{FlagReg, OutTimer, 
 use Rattle.model.specs.declared.DigitalRegister.TheVariants.{ChConfig, MinCurrent, MaxCurrent, UserReals, Maintenance, ChError}
 use Rattle.model.specs.declared.CommonRegister.TheVariants.{OutFlags, InFlags, IOChError, ChError as CommonChError}
 use Rattle.model.specs.Registers.{service_row, digital_row, common_row}
-use Rattle.model.specs.Reads.{service_bytes, bytes_read}
-use Rattle.model.specs.Image.{kept_from}
-use Rattle.model.specs.Restored.{restored_data}
 use Rattle.model.specs.Calls.{overwritten}
-use Rattle.model.proofs.Facts.{sized}
-use Rattle.errors.specs.declared.words.Words.{Words}
-use Rattle.errors.specs.Words.{OfWords}
 use Rattle.reads.specs.declared.buffer.RegisterBytes.{RegisterBytes}
 use Rattle.reads.specs.Held.{width, held}
-use Rattle.reads.specs.Reading.{box_of}
 
 -- the register's own bytes are found again
 pub held_bytes : (bs : List ℕ) → take (held bs).len (held bs).bytes ≡ bs
@@ -82,13 +71,3 @@ copied b bs lent e = ap (λ (t : RegisterBytes). overwritten (take t.len t.bytes
 -- bytes that are held have their length
 pub held-size : (b : RegisterBytes) (bs : List ℕ) (n : ℕ) → b ≡ held bs → length bs ≡ n → b.len ≡ n
 held-size b bs n e l = ap (λ (h : RegisterBytes). h.len) e ∙ held-length bs ∙ l
-
--- a service register whose bytes hang on no channel: they are held for any channels, at the size of its row
-pub own : (r : ServiceRegister) (s : Shared) (v : Service) (w : Words) (b : RegisterBytes) →
-    ((d : DataChannel) (cs : List Channel) → b ≡ held (service_bytes r (box_of s v d cs)))
-    → ((d : DataChannel) → OfWords (λ cs. held (service_bytes r (box_of s v d cs))) w b) × (b.len ≡ (service_row r).size)
-unfolding bytes_read
-own r s v w b f = (λ d cs n e. f d cs, held-size _ _ _ (f noData []) (sized.services r (box_of s v noData [])))
-  where
-    noData : DataChannel
-    noData = restored_data (kept_from [])
