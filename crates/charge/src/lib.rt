@@ -87,7 +87,8 @@ impl AllowedBlocks<'_> {
         Ok(AllowedBlocks { limits, prices })
     }
 
-    // The litres fill the blocks in order; the last takes what is left.
+    // The litres fill the blocks in order; the last takes what is left. `as`, here and in `charge`: after
+    // `u64::from` the bounds of the products, as `overflow_mul-sum`, need longer answers.
     fn fill(&self, litres: u64) -> u64
         requires { litres ≤ most_litres }
         ensures { (result ≡ priced (filled litres 0 self.now.limits.now) self.now.prices.now) × (result ≤ most_hundredths) }
@@ -97,11 +98,11 @@ impl AllowedBlocks<'_> {
         let mut sum = 0;
         for (limit, price) in self.limits.iter().zip(self.prices) {
             let taken = left.min(*limit - before);
-            sum += taken * u64::from(*price);
+            sum += taken * (*price as u64);
             left -= taken;
             before = *limit;
         }
-        sum + left * u64::from(self.prices[self.limits.len()])
+        sum + left * (self.prices[self.limits.len()] as u64)
     }
 }
 
@@ -120,6 +121,6 @@ pub fn charge(
     }
     let blocks = AllowedBlocks::of(&t)?;
     let pulses = pulses_between(earlier, later);
-    let litres = u64::from(pulses) * u64::from(litres_per_pulse);
+    let litres = (pulses as u64) * (litres_per_pulse as u64);
     Ok((blocks.fill(litres) + 50) / 100)
 }

@@ -16,19 +16,25 @@ pub struct Reading {
 }
 
 // The wire read itself, for a channel from 1 to 16, refused by the box's own number for any other.
+// Two comparisons, `as` and a match: with `(1..=16).contains`, `u16::from` and `.map` the search
+// leaves the goals `returns` and `returns-then-not-contains` open.
 pub fn read_counter(m: Module, channel: u8) -> Reading
     ensures { shown result ≡ reading m channel }
 {
-    if !(1..=16).contains(&channel) {
+    if channel < 1 || 16 < channel {
         return Reading {
             after: m,
             counter: Err(Refusal::NoChannel),
         };
     }
     let mut buf = [0u8; 4];
-    let done = pd3120::read(m, u16::from(channel) * 16 + COUNTER, &mut buf);
+    let done = pd3120::read(m, (channel as u16) * 16 + COUNTER, &mut buf);
+    let counter = match done.reply {
+        Ok(_) => Ok(bytes::i32_of_bytes(buf)),
+        Err(why) => Err(why),
+    };
     Reading {
         after: done.after,
-        counter: done.reply.map(|_| bytes::i32_of_bytes(buf)),
+        counter,
     }
 }

@@ -14,7 +14,7 @@ use Rattle.model.specs.Questions.{length_of}
 use Rattle.model.specs.Image.{image_size}
 use Rattle.model.specs.Calls.{write, Stepped, step}
 use Rattle.model.specs.Tick.{save_due, saved}
-use Rattle.model.proofs.Laws.Filled.{filled, none, alike, in_place, below, below_none, from, from-none, from_all, up, down, all-below}
+use Rattle.model.proofs.Laws.Filled.{filled, none, alike, in_place, below, below_none, from, from-none, from_all, down, all-below}
 use Rattle.model.proofs.Laws.Tests.{either}
 use Rattle.registers.specs.Places.{placed, slot_of}
 use Rattle.ticks.specs.declared.Begun.{Begun}
@@ -52,14 +52,7 @@ down_all g n cs = alike (λ (j : ℕ). g) (from n 0) (below n) cs cs (from_all n
 abbrev pub done_up : (ℕ → Channel → Channel) → ℕ → List Channel → List Channel
 done_up g k cs = filled (below k) g cs cs
 
-up_none : (g : ℕ → Channel → Channel) (cs : List Channel) → done_up g 0 cs ≡ cs
-up_none g cs = none g (below 0) cs cs (λ j h. below_none j)
-
-up_more : (g : ℕ → Channel → Channel) (k : ℕ) (cs : List Channel) (d : Channel) → k < length cs
-    → set (done_up g k cs) k (g k (get_or (done_up g k cs) k d)) ≡ done_up g (suc k) cs
-up_more g k cs d l = in_place g (below k) (below (suc k)) k cs d l (up k)
-
--- ---- the box in such a loop: m0 before it, m where the loop has come to, and a turn more, with ch in place of the channel there
+-- ---- the box in a loop down: m0 before it, m where the loop has come to, and a turn more, with ch in place of the channel there
 pub down_begins : (g : Channel → Channel) (n : ℕ) (m : Module) → m ≡ with_channels (done_down g n n m.channels) m
 down_begins g n m = ap (λ (cs : List Channel). with_channels cs m) (sym (down_none g n m.channels))
 
@@ -80,19 +73,6 @@ down_goes g n k k' m0 m ch d e h l p q =
     let turn : set m.channels k' ch ≡ done_down g n k' m0.channels = ap (set m.channels k') q
     ∙ ap (λ (x : Module). set x.channels k' (g (get_or x.channels k' d))) p ∙ down_more g n k k' m0.channels d e h long in
     ap (λ (cs : List Channel). with_channels cs m) turn ∙ ap (with_channels (done_down g n k' m0.channels)) p
-
-pub up_begins : (g : ℕ → Channel → Channel) (m : Module) → m ≡ with_channels (done_up g 0 m.channels) m
-up_begins g m = ap (λ (cs : List Channel). with_channels cs m) (sym (up_none g m.channels))
-
-pub up_goes : (g : ℕ → Channel → Channel) (k k' : ℕ) (m0 m : Module) (ch d : Channel) → k' ≡ suc k → k < length m.channels
-    → m ≡ with_channels (done_up g k m0.channels) m0 → ch ≡ g k (get_or m.channels k d)
-    → with_channels (set m.channels k ch) m ≡ with_channels (done_up g k' m0.channels) m0
-up_goes g k k' m0 m ch d e l p q =
-    let long : k < length m0.channels = omega (arith, as_long (below k) g m0 m p) in
-    let turn : set m.channels k ch ≡ done_up g k' m0.channels = ap (set m.channels k) q
-    ∙ ap (λ (x : Module). set x.channels k (g k (get_or x.channels k d))) p ∙ up_more g k m0.channels d long
-    ∙ ap (λ (j : ℕ). done_up g j m0.channels) (sym e) in
-    ap (λ (cs : List Channel). with_channels cs m) turn ∙ ap (with_channels (done_up g k' m0.channels)) p
 
 -- ---- a tick: each channel is ticked, and where the tick saves, saved
 -- one after the other
