@@ -1,7 +1,6 @@
 use mathlib.Core.Path.{◌≡◌, refl, ap, ◌∙◌}
 use mathlib.Core.Bool.{true}
 use Prim.Native.Nat.{◌-◌}
-use lib.ListN.{length}
 use mir.Syntax.{w32}
 use mir.Val.{to_z, of_z}
 use mir.ValLaws.{to_z-of_z}
@@ -9,7 +8,6 @@ use Rattle.integers.specs.Bytes.{signed_number}
 use Rattle.model.specs.State.{channel_at}
 use Rattle.model.specs.Settings.{is_digital}
 use Rattle.model.specs.Calls.{Stepped}
-use borrow.Author.Rules.{rules}
 use borrow.Author.Tests.{le-leb, lt-leb}
 use Rattle.charge.specs.Readings.{read_as, reading}
 use Rattle.charge.proofs.Laws.Held.{counter-held}
