@@ -17,8 +17,8 @@ use std::hint::select_unpredictable;
 
 // What a tick has worked out when it comes to the channels: the shared record and the service record
 // after step 1, how many channels it saves in the end (all or none), whether the watchdog ran out,
-// and, where it looks at the feedback, the InFlags, bit k-1 for channel k. count is a count, 16 or 0,
-// as `begun_of` (specs/Begun) has it, and the bound of the loop that saves.
+// and, where it looks at the feedback, the InFlags, bit k-1 for channel k. count is 16 or 0, as
+// `begun_of` (specs/Begun) has it, and the bound of the loop that saves.
 #[derive(Clone, Copy)]
 pub struct Begun {
     pub shared: Shared,
@@ -79,8 +79,8 @@ pub fn tick_service(ran_out: bool, v: Service) -> Service
     next
 }
 
-// The InFlags, from channel 16 down, so that channel 1 comes to bit 0. Not `words::of_channels`: ticks
-// doesn't stand on errors, and that makes four words.
+// The InFlags, from channel 16 down, so that channel 1 comes to bit 0. Not `words::of_channels`:
+// ticks doesn't stand on errors, and that makes four words.
 pub fn levels(channels: [Channel; 16]) -> u16
     ensures { result ≡ word_of (map in_flag_of channels) }
 {
@@ -163,9 +163,9 @@ pub fn tick_data(b: Begun, d: DataChannel) -> DataChannel
     next
 }
 
-// From channel 16 to 1, since the terminal board latches 16 first, each with step 7. By index: after
-// `iter_mut().rev()` a proof knows no element (as in pd3120_tick). By value; pd3120_tick goes over C's
-// module in its place, since a second sixteen channels would double its stack. `saved due` is the
+// From channel 16 to 1, since the terminal board latches 16 first, each with step 7. By index: a
+// proof knows no element after `iter_mut().rev()` (as in pd3120_tick). By value; pd3120_tick goes
+// over C's module in its place, since a second sixteen channels would double its stack. `saved due` is the
 // model's: a tick saves all or none.
 fn tick_channels(b: Begun, due: bool, channels: [Channel; 16]) -> [Channel; 16]
     ensures { result ≡ map (λ ch. saved due (ticked_by b ch)) channels }

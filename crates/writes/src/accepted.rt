@@ -54,7 +54,7 @@ impl AcceptedWrite<'_> {
         }
     }
 
-    // How many channels it comes to, from the first: 16 or 0, since `count_of` (specs/Begun) is a count.
+    // How many channels it comes to, from the first: 16 or 0, as `count_of` (specs/Begun) counts.
     pub(crate) fn count(&self) -> usize
         ensures { result ≡ count_of (placed self.now.place) }
     {

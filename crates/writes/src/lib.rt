@@ -119,7 +119,7 @@ pub fn each(p: Place, word: u16, k: usize, ch: Channel) -> Channel
     }
 }
 
-// By value; pd3120_c's loop goes over C's module in its place, since a second sixteen channels would
+// By value; pd3120_c's loop goes over C's module in its place: a second sixteen channels would
 // double its stack.
 fn first_each(p: Place, word: u16, count: usize, channels: [Channel; 16]) -> [Channel; 16]
     requires { count ≤ 16 }
