@@ -112,8 +112,8 @@ pub extern "C" fn pd3120_look_up(m: &Module, table: u8, x: f32) -> u64
 
 // From channel 16 to 1, since the terminal board latches 16 first. The save is a loop of its own, so
 // that the ticks without it, all but one in ten hours, do not touch the kept values. By index: with
-// `iter_mut().rev()`, over `m.channels` or over a function's `&mut [Channel]`, the goal `returns` stays
-// open: what the elements are after the loop.
+// `iter_mut().rev()`, over `m.channels` or, tried with bytes, over a slice that is a parameter, the goal
+// `returns` stays open: what the elements are after the loop.
 #[unsafe(no_mangle)]
 pub extern "C" fn pd3120_tick(m: &mut Module)
     ensures { Ticked m.old m.new }
