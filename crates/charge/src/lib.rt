@@ -87,8 +87,8 @@ impl AllowedBlocks<'_> {
         Ok(AllowedBlocks { limits, prices })
     }
 
-    // The litres fill the blocks in order; the last takes what is left. `as`, here and in `charge`: after
-    // `u64::from` the bounds of the products, as `overflow_mul-sum`, need longer answers.
+    // The litres fill the blocks in order; the last takes what is left. `as`, here and in `charge`: with
+    // `u64::from` eight goals, as `overflow_mul-sum`, stay open (tried).
     fn fill(&self, litres: u64) -> u64
         requires { litres ≤ most_litres }
         ensures { (result ≡ priced (filled litres 0 self.now.limits.now) self.now.prices.now) × (result ≤ most_hundredths) }

@@ -111,7 +111,8 @@ pub fn no_windows() -> Timetable
     }
 }
 
-// The windows of a call, whole. A call with more than eight is refused.
+// The windows of a call, whole. A call with more than eight is refused. By `ns[k]`: a proof does not
+// see what is written through a `zip` of `iter_mut`.
 pub fn timetable_of(ns: &[u32]) -> Timetable
     ensures { result ≡ timetable_of ns.now }
 {

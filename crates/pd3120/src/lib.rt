@@ -70,7 +70,7 @@ pub fn store(m: Module, buf: &mut [u8]) -> Reply
     image::store(m, buf)
 }
 
-// The same for a box that is there, without a second one beside it. docs/ARCHITECTURE.md names both.
+// `power_up` for a box that is there, without a second one beside it. docs/ARCHITECTURE.md names both.
 pub fn power_up_in_place(m: &mut Module, img: &[u8]) -> Reply
     ensures { PoweredUp img.now (record { after = m.new; reply = result }) }
 {

@@ -25,7 +25,8 @@ fn store(m: Module, lent: &mut [u8]) -> Answered {
 }
 
 // Makes a call so many times over, and answers as the last does: once, but for ticks. The parts are
-// as pd3120::call takes them.
+// as pd3120::call takes them. By a count of its own: the edit ticks_never_end takes its step away,
+// and a `for` has no measure that could fail.
 fn make(
     m: Module,
     c: Call,
@@ -35,8 +36,10 @@ fn make(
     lent: &mut [u8],
 ) -> Answered {
     let mut answered = plain(m, Ok(0));
-    for _ in 0..times {
+    let mut left = times;
+    while 0 < left {
         answered = pd3120::call(answered.after, c, written, windows, lent);
+        left -= 1;
     }
     answered
 }

@@ -31,7 +31,8 @@ pub enum Line {
     Outputs,
 }
 
-// The bytes that a call takes: none, those that a word's digits write, or as many as `store` lends.
+// The bytes that a call takes: none, those that a word's digits write, or as many as `store` lends. No
+// Option around the two others: `put_bytes` matches all three at once.
 #[derive(Clone, Copy)]
 enum Bytes<'a> {
     None,

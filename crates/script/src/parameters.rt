@@ -37,7 +37,8 @@ impl fmt::Display for Wrong {
 impl Error for Wrong {}
 
 // The number that a word writes in digits of the base; `otherwise` where it has others. The clause
-// stands in each function above too: it speaks of their argument, so that no type holds it.
+// stands in `parse_number` and in the two functions below too: it speaks of their argument, so that
+// no type holds it.
 fn number(word: &[u8], base: Base, highest: u64, otherwise: Wrong) -> Result<u64, Wrong>
     ensures { IfOk result (λ n. n ≤ highest) }
 {

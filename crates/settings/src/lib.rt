@@ -110,7 +110,7 @@ pub fn silences_overload(ch: Channel) -> bool
     enables(6, ch)
 }
 
-// Bit k of a word; a u16 has none above 15.
+// Bit k of a word; a u16 has none above 15. std has no method that tests a bit.
 pub fn bit_of(word: u16, k: usize) -> bool
     ensures { result ≡ bit k word }
 {

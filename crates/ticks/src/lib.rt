@@ -165,8 +165,8 @@ pub fn tick_data(b: Begun, d: DataChannel) -> DataChannel
 
 // From channel 16 to 1, since the terminal board latches 16 first, each with step 7. By index: a
 // proof knows no element after `iter_mut().rev()` (as in pd3120_tick). By value; pd3120_tick goes
-// over C's module in its place, since a second sixteen channels would double its stack. `saved due` is the
-// model's: a tick saves all or none.
+// over C's module in its place: sixteen channels are 1792 bytes, and PD3120_CALL_STACK is 1024.
+// `saved due` is the model's: a tick saves all or none.
 fn tick_channels(b: Begun, due: bool, channels: [Channel; 16]) -> [Channel; 16]
     ensures { result ≡ map (λ ch. saved due (ticked_by b ch)) channels }
 {

@@ -119,8 +119,8 @@ pub fn each(p: Place, word: u16, k: usize, ch: Channel) -> Channel
     }
 }
 
-// By value; pd3120_c's loop goes over C's module in its place: a second sixteen channels would
-// double its stack.
+// By value; pd3120_c's loop goes over C's module in its place: sixteen channels are 1792 bytes, and
+// PD3120_CALL_STACK is 1024.
 fn first_each(p: Place, word: u16, count: usize, channels: [Channel; 16]) -> [Channel; 16]
     requires { count ≤ 16 }
     ensures { result ≡ first_each (each_written (placed p) word) count channels }
