@@ -24,10 +24,12 @@ pub fn of_channels(channels: [Channel; 16]) -> Words
     let mut his: u16 = 0;
     let mut act: u16 = 0;
     for ch in channels.iter().rev() {
-        out = bits::more(out, ch.flags.out_flag);
-        input = bits::more(input, ch.flags.in_flag);
-        his = bits::more(his, any_bit(ch.errors.his));
-        act = bits::more(act, any_bit(ch.errors.act));
+        let flags = ch.flags;
+        let errors = ch.errors;
+        out = bits::more(out, flags.out_flag);
+        input = bits::more(input, flags.in_flag);
+        his = bits::more(his, any_bit(errors.his));
+        act = bits::more(act, any_bit(errors.act));
     }
     Words {
         out_flags: out,

@@ -20,7 +20,7 @@ pub mod samples;
 pub use calls::call;
 use errors::words;
 use errors::words::Words;
-use model::{Channel, DataChannel, Module, Outcome, Refusal, Reply, Service, ServiceBits, Shared};
+use model::{Channel, DataChannel, Module, Outcome, Refusal, Reply, Service, Shared};
 use writes::{Begun, Rest};
 
 // DataError and GeneralError.
@@ -77,27 +77,24 @@ pub fn power_up_in_place(m: &mut Module, img: &[u8]) -> Reply
     image::power_up_in_place(m, img)
 }
 
-// Every wire call first clears Act bit 3 of the service channel.
+// Every wire call first clears Act bit 3 of the service channel. A changed copy, here and in the next:
+// a struct update writes the record byte by byte, and the next call, which takes more than a byte at a
+// time, has to wait for these.
 fn clear(v: Service) -> Service
     ensures { RecordBy cleared v result }
 {
-    Service {
-        act: ServiceBits {
-            wd_run_out: false,
-            ..v.act
-        },
-        ..v
-    }
+    let mut next = v;
+    next.act.wd_run_out = false;
+    next
 }
 
 // And last sets WDTimer to WDPreset.
 fn preset_watchdog(s: Shared, v: Service) -> Service
     ensures { SharedBy watchdog_preset s v result }
 {
-    Service {
-        wd_timer: s.wd_preset,
-        ..v
-    }
+    let mut next = v;
+    next.wd_timer = s.wd_preset;
+    next
 }
 
 // The two bits, as they are in a box.

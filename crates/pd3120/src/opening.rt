@@ -10,10 +10,9 @@ use model::{Channel, Outcome, Shared};
 fn with_minute(s: Shared, minute: u16) -> Shared
     ensures { result ≡ with_clock (clock_at minute) s }
 {
-    Shared {
-        clock: hours::set_to(minute),
-        ..s
-    }
+    let mut next = s;
+    next.clock = hours::set_to(minute);
+    next
 }
 
 // s is the box's shared record.
@@ -31,10 +30,9 @@ pub fn set_minute(s: Shared, minute: u16) -> Outcome<Shared>
 fn with_windows(ch: Channel, windows: &[u32]) -> Channel
     ensures { result ≡ with_timetable (timetable_of windows.now) ch }
 {
-    Channel {
-        timetable: hours::timetable_of(windows),
-        ..ch
-    }
+    let mut next = ch;
+    next.timetable = hours::timetable_of(windows);
+    next
 }
 
 // ch is the channel at the place that `samples::slot` gives. Each window is its start times 65536 plus

@@ -24,9 +24,11 @@ pub struct Player<'a> {
     pub out: Text<'a>,
 }
 
-// Reads more behind the text that is there, and answers whether any came. A read that fails counts
-// as the input's end.
-fn fill(input: &mut impl Read, text: &mut Text) -> bool {
+// Reads more behind the text that is there, which stays, and answers whether any came. A read that
+// fails counts as the input's end.
+fn fill(input: &mut impl Read, text: &mut Text) -> bool
+    ensures { text.old.len ≤ text.new.len }
+{
     let n = input.read(&mut text.bytes[text.len..]).unwrap_or(0);
     text.len += n;
     0 < n

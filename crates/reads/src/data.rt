@@ -25,9 +25,12 @@ fn put_real(x: f32, buf: &mut [u8])
     buffers::put_array(reals::bytes_of(x), buf, 0);
 }
 
-fn put_table(t: &LevelTable, buf: &mut [u8])
+// By value, and a call of its own in the compiled code: else every read of the box, of whatever
+// register, copies both tables to its stack.
+#[inline(never)]
+fn put_table(t: LevelTable, buf: &mut [u8])
     requires { table_size ≤ length buf.old }
-    ensures { buf.new ≡ overwritten (pairs_bytes t.now.pairs) buf.old }
+    ensures { buf.new ≡ overwritten (pairs_bytes t.pairs) buf.old }
 {
     buffers::put_pairs(&t.pairs, buf, 0);
 }
@@ -42,7 +45,7 @@ pub(crate) fn fill(r: DataRegister, d: DataChannel, buf: &mut [u8])
         DataRegister::RealB => put_real(d.reals.b, buf),
         DataRegister::TimerA => put_timer(d.timers.a, buf),
         DataRegister::TimerB => put_timer(d.timers.b, buf),
-        DataRegister::LookUp1 => put_table(&d.table1, buf),
-        DataRegister::LookUp2 => put_table(&d.table2, buf),
+        DataRegister::LookUp1 => put_table(d.table1, buf),
+        DataRegister::LookUp2 => put_table(d.table2, buf),
     }
 }

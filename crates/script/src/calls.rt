@@ -1,5 +1,5 @@
 // The words of one call, by its name.
-ghost use Rattle.std.specs.Prelude.{◌≤◌, length};
+ghost use Rattle.std.specs.Prelude.{◌≡◌, ◌≤◌, length};
 
 use crate::charges::Charge;
 use crate::digits::Base;
@@ -59,7 +59,8 @@ fn lend(n: usize, space: &mut [u8]) -> usize
 impl Asked<'_> {
     // Puts the bytes at the start of the space, as far as there is room; answers how many.
     pub(crate) fn put_bytes(self, space: &mut [u8]) -> usize
-        ensures { result ≤ length space.new }
+        ensures room { result ≤ length space.new }
+        ensures none { self.entry.bytes ≡ Bytes.None → result ≤ 0 }
     {
         match self.bytes {
             Bytes::None => 0,
@@ -70,7 +71,9 @@ impl Asked<'_> {
 }
 
 // A line whose call takes no bytes.
-pub(crate) fn without_bytes<'a>(line: Line) -> Asked<'a> {
+pub(crate) fn without_bytes<'a>(line: Line) -> Asked<'a>
+    ensures { result.bytes ≡ Bytes.None }
+{
     Asked {
         line,
         bytes: Bytes::None,
@@ -141,7 +144,7 @@ pub(crate) fn parse_look_up(mut words: Words) -> Result<Line, Wrong> {
 }
 
 pub(crate) fn parse_tick(mut words: Words) -> Result<Line, Wrong> {
-    if words.count() == 0 {
+    if words.count_to(0) == 0 {
         return Ok(Line::Tick(1));
     }
     words.exactly(1)?;

@@ -23,6 +23,9 @@ pub struct Charge {
     pub blocks: Blocks,
 }
 
+// EARLIER, LATER and LITRES, and up to eight blocks, of which the last has one word.
+const MOST_WORDS: usize = 18;
+
 // How many blocks a charge of so many words has, up to eight: the three words before the blocks,
 // and two for each block but the last, which has one.
 fn block_count(words: usize) -> Option<u32> {
@@ -61,7 +64,7 @@ fn take_blocks(count: u32, words: &mut Words) -> Result<Blocks, Wrong> {
 }
 
 pub(crate) fn parse_charge(mut words: Words) -> Result<Line, Wrong> {
-    let count = block_count(words.count()).ok_or(Wrong::WordCount)?;
+    let count = block_count(words.count_to(MOST_WORDS)).ok_or(Wrong::WordCount)?;
     let earlier = parameters::bits(words.word()?)?;
     let later = parameters::bits(words.word()?)?;
     let litres = parameters::whole(words.word()?)?;

@@ -38,7 +38,7 @@ fn take_window(words: &mut Words) -> Result<u32, Wrong> {
 
 // The channel alone, or two words more for each window.
 pub(crate) fn parse_windows(mut words: Words) -> Result<Line, Wrong> {
-    let all = words.count();
+    let all = words.count_to(MOST_WORDS);
     if MOST_WORDS < all || all % 2 == 0 {
         return Err(Wrong::WordCount);
     }

@@ -30,9 +30,15 @@ impl<'a> Iterator for Words<'a> {
 }
 
 impl<'a> Words<'a> {
+    // How many words are left, or one more than the most that a call takes: of a long line no more
+    // is looked at.
+    pub(crate) fn count_to(self, most: usize) -> usize {
+        self.take(most.saturating_add(1)).count()
+    }
+
     // Whether there are as many words left as a call takes.
     pub(crate) fn exactly(self, many: usize) -> Result<(), Wrong> {
-        if self.count() != many {
+        if self.count_to(many) != many {
             return Err(Wrong::WordCount);
         }
         Ok(())

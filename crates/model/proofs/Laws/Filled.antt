@@ -1,9 +1,9 @@
 -- A loop that works on the places of a list one by one, in any order: what stands in the list when some of the places are done, what the
 -- next turn adds, and that all of them make the whole; and the two orders, from the first place up and from the last down. Assumes nothing.
-use mathlib.Core.Path.{◌≡◌, refl, sym, ap, ap₂, ◌∙◌}
+use mathlib.Core.Path.{◌≡◌, refl, sym, ap, ap₂, subst, ◌∙◌}
 use mathlib.Core.Bool.{Bool, true, false, cond, ◌&&◌}
 use mathlib.Core.List.{List, [], ◌∷◌, map}
-use Prim.Native.Nat.{ℕ, zero, suc, ◌<◌}
+use Prim.Native.Nat.{ℕ, zero, suc, ◌-◌, ◌<◌}
 use native.Mathlib.Nat.{le_of_suc-le-suc, not-suc-le-zero, zero-lt-suc}
 use native.Mathlib.Omega.{arith}
 use lib.Dec.{ltb, leb}
@@ -122,3 +122,34 @@ from-none n j = go (ltb j n) refl
 
 pub from_all : (n j : ℕ) → from n 0 j ≡ below n j
 from_all n j = ap (λ (b : Bool). b && ltb j n) (le-leb 0 j (omega arith))
+
+-- an order: turn k comes to `place k`, where the places of `done k` are done; in the end those below n are, whatever the order
+pub record Order (n : ℕ) : Type 0 where
+  pub place : ℕ → ℕ
+  pub done : ℕ → ℕ → Bool
+  pub within : (k : ℕ) → k < n → place k < n
+  pub turn : (k : ℕ) → k < n → Turn (done k) (done (suc k)) (place k)
+  pub at_first : (j : ℕ) → done 0 j ≡ false
+  pub at_last : (j : ℕ) → done n j ≡ below n j
+
+abbrev pub upward : (n : ℕ) → Order n
+upward n = record {
+  place = λ k. k;
+  done = below;
+  within = λ k l. l;
+  turn = λ k l. up k;
+  at_first = below_none;
+  at_last = λ j. refl;
+}
+
+abbrev pub downward : (n : ℕ) → Order n
+downward n = record {
+  place = λ k. n - suc k;
+  done = λ k. from n (n - k);
+  within = λ k l. omega (arith, l);
+  turn = λ k l.
+      let e : suc (n - suc k) ≡ n - k = omega (arith, l) in
+      subst (λ (m : ℕ). Turn (from n m) (from n (n - suc k)) (n - suc k)) e (down n (n - suc k) (omega (arith, l)));
+  at_first = λ j. let e : n - 0 ≡ n = omega arith in ap (λ (m : ℕ). from n m j) e ∙ from-none n j;
+  at_last = λ j. let e : n - n ≡ 0 = omega arith in ap (λ (m : ℕ). from n m j) e ∙ from_all n j;
+}

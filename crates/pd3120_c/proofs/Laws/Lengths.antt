@@ -76,3 +76,11 @@ power-up-length img r e =
 pub store_length : (m : Module) (lent : List ℕ) (r : Reply) (lent' : List ℕ) → answer_of r lent' false false 0 ≡ store_answer m lent → length_of r ≤ image_size
 unfolding store_answer store_reply
 store_length m lent r lent' e = subst (λ (n : ℕ). n ≤ image_size) (ap (λ (a : Answer). a.length) (sym e)) (asked-length (store_questions lent) image_size)
+
+-- a write answers none
+zero : (n : ℕ) → n ≤ 0 → n ≡ 0
+zero n l = omega (arith, l)
+
+pub no-length : (m : Module) (n : ℕ) (bs : List ℕ) → (step m (write n bs)).answer.length ≡ 0
+unfolding step write_reply
+no-length m n bs = zero _ (asked-length (write_questions (write_enable_of m.shared) n (place n) bs) 0)

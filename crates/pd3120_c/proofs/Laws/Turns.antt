@@ -11,7 +11,6 @@ use Rattle.model.specs.declared.Module.{Module}
 use Rattle.model.specs.State.{nothing, with_channels}
 use Rattle.model.specs.Errors.{data_error_of, general_error_of}
 use Rattle.model.specs.Questions.{length_of}
-use Rattle.model.specs.Image.{image_size}
 use Rattle.model.specs.Calls.{write, Stepped, step}
 use Rattle.model.specs.Tick.{save_due, saved}
 use Rattle.model.proofs.Laws.Filled.{filled, none, alike, in_place, below, below_none, from, from-none, from_all, down, all-below}
@@ -25,7 +24,7 @@ use Rattle.writes.specs.Begun.{data_by, each_written, whole_of}
 use Rattle.writes.proofs.Laws.Begun.{first_done}
 use Rattle.pd3120.specs.Parts.{WriteBy}
 use Rattle.pd3120_c.specs.Codes.{reply_code, answer_code, Left, Ticked}
-use Rattle.pd3120_c.proofs.Laws.Lengths.{reply-length}
+use Rattle.pd3120_c.proofs.Laws.Lengths.{no-length}
 
 -- such a loop leaves as many
 length-filled : (done : ℕ → Bool) (g : ℕ → Channel → Channel) (xs ys : List Channel) → length (filled done g xs ys) ≡ length ys
@@ -161,10 +160,10 @@ write_ends m n bs i b m1 k m' code l p h t at g e =
       e ∙ ap (λ (x : Module). reply_code b.rest.reply (data_error_of x) (general_error_of x)) full ∙ ap (λ (x : Stepped). answer_code x.answer) w,
     )
 
--- the length of its answer
+-- the length of its answer is none
 pub write-length : (m : Module) (n : ℕ) (bs : List ℕ) (i : ℕ) (b : Write.Begun) → length m.channels ≡ 16 → i ≡ slot_of (n / 16)
-    → WriteBy m.shared m.service (get_or m.channels i nothing) n bs b → length_of b.rest.reply ≤ image_size
+    → WriteBy m.shared m.service (get_or m.channels i nothing) n bs b → length_of b.rest.reply ≡ 0
 write-length m n bs i b l p h =
     let own = ap (λ (j : ℕ). get_or m.channels j nothing) (sym p) in
-    reply-length m (write n bs) b.rest.reply [] _ _
-    (ap (λ (x : Stepped). x.answer) (h.2 m (record { shared_is = refl; service_is = refl; sixteen = l; channel_is = own })))
+    ap (λ (x : Stepped). x.answer.length) (h.2 m (record { shared_is = refl; service_is = refl; sixteen = l; channel_is = own }))
+    ∙ no-length m n bs

@@ -1,6 +1,6 @@
-use mathlib.Core.Path.{◌≡◌, refl, sym, ap, ◌∙◌}
+use mathlib.Core.Path.{◌≡◌, refl, sym, ap, subst, ◌∙◌}
 use mathlib.Core.List.{List, ◌++◌}
-use Prim.Native.Nat.{ℕ, suc}
+use Prim.Native.Nat.{ℕ, suc, ◌≤◌}
 use native.Mathlib.Numerals.{add-one}
 use native.Mathlib.Omega.{arith}
 use lib.ListN.{length, take, drop, set}
@@ -10,6 +10,7 @@ use Rattle.model.specs.declared.Channel.{Channel}
 use Rattle.model.specs.declared.DataChannel.{DataChannel}
 use Rattle.model.specs.declared.Module.{Module}
 use Rattle.model.specs.State.{with_channels}
+use Rattle.model.specs.Image.{image_size}
 use Rattle.model.proofs.Laws.Filled.{filled, none, in_place, below, below_none, up}
 use Rattle.registers.specs.Places.{placed}
 use Rattle.writes.specs.Begun.{begun_with, data_by, each_written, first_each}
@@ -39,7 +40,9 @@ pack-requires c =
     let m = c.args.m.now in
     let l : length m.channels ≡ 16 = search rules in
     let r = c.begin_write_in_place-rest in
-    write-length m c.args.swno c.args.bytes.now c.wire_slot-at.result (begun_with r.new.s r.new.v r.new.ch r.result) l c.wire_slot-at.ensures.0 r.ensures
+    let b = begun_with r.new.s r.new.v r.new.ch r.result in
+    let e = write-length m c.args.swno c.args.bytes.now c.wire_slot-at.result b l c.wire_slot-at.ensures.0 r.ensures in
+    subst (λ (k : ℕ). k ≤ image_size) (sym e) (omega arith)
 
 pub returns : goal.returns
 returns c =

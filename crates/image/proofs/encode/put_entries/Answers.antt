@@ -20,9 +20,9 @@ pub loop-k-preserved : goal.loop-k-preserved
 loop-k-preserved c =
     let k = c.loop-k.k in
     let image = c.args.image.now in
-    let cs = c.args.channels in
+    let cs = c.args.channels.now in
     let es = map entry_of cs in
-    let n : length cs ≡ 16 = search (rules, c.well_formed.0.0) in
+    let n : length cs ≡ 16 = search rules in
     let done = entries_bytes (take k es) in
     let e = c.entry_bytes.result in
     let here : e ≡ entry_bytes (get_or es k (entry_of nothing)) = c.entry_bytes.ensures ∙ ap entry_bytes (sym (get_or-map entry_of cs k nothing)) in
@@ -36,9 +36,9 @@ loop-k-preserved c =
 pub returns : goal.returns
 returns c =
     let l = c.loop-k in
-    let cs = c.args.channels in
+    let cs = c.args.channels.now in
     let es = map entry_of cs in
-    let n : length cs ≡ 16 = search (rules, c.well_formed.0.0) in
+    let n : length cs ≡ 16 = search rules in
     let e : l.k ≡ length es = omega (arith, n, length-map cs entry_of) in
     let whole : entries_bytes (take l.k es) ≡ entries_bytes es = ap (λ (j : ℕ). entries_bytes (take j es)) e ∙ ap entries_bytes (take-length es) in
     pasted-as c.args.image.now 10 whole (l.invariant.0, l.invariant.2 ∙ omega (arith, e, n, length-map cs entry_of))
