@@ -1,9 +1,13 @@
 // The reply to a line.
+ghost use Rattle.std.specs.Prelude.{◌<◌, IfSome};
+
 use crate::convert::{NoAnswer, Word, convert};
 use std::io;
 
 // Letters are small alone: `to_digit` would take capitals too.
-fn digit(b: u8) -> Option<u32> {
+fn digit(b: u8) -> Option<u32>
+    ensures { IfSome result (λ d. d < 16) }
+{
     match b {
         b'0'..=b'9' => Some(u32::from(b - b'0')),
         b'a'..=b'f' => Some(u32::from(b - b'a' + 10)),
